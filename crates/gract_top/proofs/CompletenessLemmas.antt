@@ -1,8 +1,6 @@
 -- Where what a request needs is there and no device fails, a call is done or out of memory.
-use Rattle.std.proofs.Common.{◌≡◌, ◌≢◌, ℕ, ◌+◌, ◌≤◌, true, nat_lt, List, length, Option, Some, None, ◌⊎◌}
-use Rattle.std.proofs.Common.{inl, inr, refl, sym, ap, ◌∙◌, subst, arith, length-append}
-use Rattle.std.proofs.lemmas.Bool.{cases_Bool}
-use Rattle.std.proofs.lemmas.Bool.Decides.{nat_tests}
+use Rattle.std.proofs.Common.{◌≡◌, ◌≢◌, ℕ, ◌+◌, ◌≤◌, true, List, length, Option, Some, None, ◌⊎◌, arith}
+use Rattle.std.proofs.Common.{inl, inr, sym, ap, ◌∙◌, subst, length-append}
 use Rattle.std.proofs.lemmas.List.{take_all}
 use Rattle.std.specs.Io.KnownBytes.{Consumes}
 use Rattle.history.specs.Loads.{Load}
@@ -11,26 +9,18 @@ use Rattle.host_ports.specs.FilesState.{FilesState, IsPlain}
 use Rattle.host_ports.specs.Faults.{Rose}
 use Rattle.track_types.specs.Limits.{limit_of}
 use Rattle.track_types.specs.declared.flaw.Flaw.{Flaw}
-use Rattle.track_types.specs.declared.limit.LimitKind.{LimitKind}
 use Rattle.track_types.specs.declared.limit.LimitKind.TheVariants as limit
 use Rattle.track_types.specs.declared.setting.Setting.{Setting}
 use Rattle.track_index.specs.Opening.{first_flaw}
 use Rattle.track_index.proofs.DecidingLemmas.{first_flaw-file}
 use Rattle.gract_top.specs.Completeness.{HasAccepted, HasIndex, HasQuestions}
-use Rattle.gract_top.specs.Beginning.{NotLoaded}
-use Rattle.gract_top.specs.Ends.{AnswersChart, AnswersFile, EndsAsk, EndsBuild, EndsOnce, EndsUpgrade, OutsideView}
+use Rattle.gract_top.specs.Ends.{AnswersChart, AnswersFile, EndsAsk, EndsBuild, EndsOnce, OutsideView}
 use Rattle.gract_top.specs.Ends.{Saved, written}
 use Rattle.gract_top.specs.Loading.{FileCame}
 use Rattle.gract_top.specs.Outcome.{EndsOpened, Talk}
 use Rattle.gract_top.specs.Refusal.{IsIndexRefused, IsRefused, file_refusal, is_late, is_bytes_refusal, length_refusal}
 use Rattle.gract_top.proofs.LoadingLemmas.{length_refusal-short}
-use Rattle.gract_top.specs.Sampling.{EndsSample, Speech, SumsNothing, SumsSample, Told, sample_chart, sample_refusal}
-use Rattle.gract_top.specs.Summary.{summary_of}
-use Rattle.gract_top.specs.Upgrading.{NotUpgraded}
-use Rattle.gract_top.proofs.UpgradingLemmas.{IsFile-one}
-use Rattle.chart_parts.specs.PartsOf.{parts_of}
-use Rattle.snapshots.specs.Parts.{chart_in}
-use Rattle.track_index.specs.Facts.{facts_of}
+use Rattle.gract_top.specs.Sampling.{EndsSample, Speech, sample_refusal}
 use Rattle.gract_top.specs.declared.outcome.Outcome.{Outcome}
 use Rattle.gract_top.specs.declared.outcome.Outcome.TheVariants as outcome
 use Rattle.gract_top.specs.declared.request.SampleSettings.{SampleSettings}
@@ -40,19 +30,6 @@ use Rattle.gract_top.specs.declared.request.Settings.{Settings}
 abbrev pub IsGood : Outcome → Type 0
 IsGood result = (result ≡ outcome.Done) ⊎ (result ≡ outcome.Memory)
 
--- a quantity other than that of questions is one of what is loaded
-limit-either : (kind : LimitKind) (value : ℕ) → (is_bytes_refusal (outcome.Limit kind value) ≡ true) ⊎ (kind ≡ limit.Questions)
-limit-either limit.Csv value = inl refl
-limit-either limit.Rows value = inl refl
-limit-either limit.Objects value = inl refl
-limit-either limit.Span value = inl refl
-limit-either limit.Extent value = inl refl
-limit-either limit.Blocks value = inl refl
-limit-either limit.Symbols value = inl refl
-limit-either limit.Index value = inl refl
-limit-either limit.Base value = inl refl
-limit-either limit.Questions value = inr refl
-
 -- the causes that are left out by the devices and the words, and that lead to the others
 pub by_cause : (result : Outcome) → ((place : ℕ) → result ≢ outcome.Words place) → (result ≢ outcome.LoadFailed) →
     (result ≢ outcome.SaveFailed) → (result ≢ outcome.ListenFailed) → (result ≢ outcome.SayFailed) →
@@ -60,36 +37,12 @@ pub by_cause : (result : Outcome) → ((place : ℕ) → result ≢ outcome.Word
     ((value : ℕ) → result ≢ outcome.Limit limit.Questions value) →
     ((setting : Setting) (left right : ℕ) → result ≢ outcome.Settings setting left right) →
     ((object : ℕ) → result ≢ outcome.Common object) → IsGood result
-by_cause outcome.Done words load save listen say refused flawed long settings common = inl refl
-by_cause (outcome.Words place) words load save listen say refused flawed long settings common =
-    absurd (words place refl)
-by_cause outcome.LoadFailed words load save listen say refused flawed long settings common = absurd (load refl)
-by_cause (outcome.Limit kind value) words load save listen say refused flawed long settings common =
-    elim (limit-either kind value) [
-      | inl refusal ↦ absurd (refused refusal)
-      | inr questions ↦ absurd (long value (ap (λ other. outcome.Limit other value) questions))
-    ]
-by_cause (outcome.Row nth field fault) words load save listen say refused flawed long settings common =
-    absurd (refused refl)
-by_cause outcome.Empty words load save listen say refused flawed long settings common = absurd (refused refl)
-by_cause (outcome.Flaw flaw) words load save listen say refused flawed long settings common = absurd (flawed flaw refl)
-by_cause (outcome.Settings setting left right) words load save listen say refused flawed long settings common =
-    absurd (settings setting left right refl)
-by_cause (outcome.Common object) words load save listen say refused flawed long settings common =
-    absurd (common object refl)
-by_cause outcome.SaveFailed words load save listen say refused flawed long settings common = absurd (save refl)
-by_cause outcome.ListenFailed words load save listen say refused flawed long settings common = absurd (listen refl)
-by_cause outcome.SayFailed words load save listen say refused flawed long settings common = absurd (say refl)
-by_cause outcome.Memory words load save listen say refused flawed long settings common = inr refl
+by_cause result words load save listen say refused flawed long settings common = grind (arith)
 
 -- a file that is held is not missing
 pub file_named-found : (map : Option FileMap) (files : FileMap) (name bytes : List ℕ) → map ≡ Some files →
     file_named files name ≡ Some bytes → IsMissing map name → ⊥
-file_named-found None files name bytes told holds missing = missing
-file_named-found (Some others) files name bytes told holds missing =
-    let same : others ≡ files = cc in
-    let none : file_named files name ≡ None = sym (ap (λ these. file_named these name) same) ∙ missing in
-    absurd (cc)
+file_named-found map files name bytes told holds missing = grind (arith)
 
 -- what came of a file that is not too long is all of it
 pub came-whole : (map : Option FileMap) (files : FileMap) (loads : List Load) (taken : ℕ) (name whole : List ℕ) (most : ℕ) (bytes : List ℕ) →
@@ -106,10 +59,7 @@ came-whole (Some others) files loads taken name whole most bytes told holds shor
 -- an accepted file is not too long
 accepted-short : (bytes : List ℕ) (settings : Settings) → file_refusal bytes settings ≡ None →
     length bytes ≤ limit_of limit.Csv
-accepted-short bytes settings accepted = elim (cases_Bool (nat_lt (limit_of limit.Csv) (length bytes))) [
-  | inl long ↦ absurd (let none = rw long at accepted in cc)
-  | inr short ↦ grind (arith, nat_tests, short)
-]
+accepted-short bytes settings accepted = grind (arith)
 
 -- an accepted file is not refused
 accepted-kept : (map : Option FileMap) (loads : List Load) (taken : ℕ) (csv : List ℕ) (settings : Settings) (cause : Outcome) →
@@ -157,12 +107,10 @@ module _ (untouched : Type 0) (before now : Talk) where
   -- what is answered from bytes that were opened is no refusal of a union
   opened-settings : (setting : Setting) (left right : ℕ) (bytes : List ℕ) →
       EndsOpened (outcome.Settings setting left right) bytes untouched before now → ⊥
-  opened-settings setting left right bytes (inl unopened) = unopened
-  opened-settings setting left right bytes (inr ends) = ends.answers.answers.answered
+  opened-settings setting left right bytes ends = grind (arith)
 
   opened-common : (object : ℕ) (bytes : List ℕ) → EndsOpened (outcome.Common object) bytes untouched before now → ⊥
-  opened-common object bytes (inl unopened) = unopened
-  opened-common object bytes (inr ends) = ends.answers.answers.answered
+  opened-common object bytes ends = grind (arith)
 
 -- a call of `once`
 pub once-good : (result : Outcome) (csv : List ℕ) (settings : Settings) (untouched : Type 0) (before now : OutsideView) →
@@ -261,89 +209,12 @@ build-good result csv index settings before now ends ready words save listen say
     let Saves : Outcome → Type 0 = λ other. Saved other index (written (ends.late late).chart) before now in
     subst Saves is (ends.late late).saved)
 
-module _ (index name : List ℕ) (before now : FilesState) (steps_before steps_now : ℕ) (ready : HasIndex before.map index)
-  where
-    -- such a file ends in no outcome that only its length or its bytes could tell
-    upgrade-none : (result : Outcome) → EndsUpgrade result index name before now steps_before steps_now →
-        (NotLoaded result limit.Index index before now → IsIndexRefused before.map now.loads now.taken index result) →
-        (NotUpgraded result ready.bytes → ⊥) → ((newest : List ℕ) → Saved result name newest before now → ⊥) → ⊥
-    upgrade-none result ends refused unwritten unsaved = elim ends.ended [
-      | inl unloaded ↦ index-kept before.map now.loads now.taken index result ready (refused unloaded.0)
-      | inr file ↦ elim file.ended [
-        | inl left ↦
-            let same : file.bytes ≡ ready.bytes = came-whole before.map ready.files now.loads now.taken index ready.bytes
-            (limit_of limit.Index) file.bytes ready.told ready.holds ready.short file.loaded.came in
-            unwritten (subst (NotUpgraded result) same left.0)
-        | inr saves ↦ unsaved saves.newest saves.saved
-      ]
-    ]
-
-    -- what is no outcome of an upgrade
-    upgrade-other : (result : Outcome) → EndsUpgrade result index name before now steps_before steps_now →
-        (NotLoaded result limit.Index index before now → IsIndexRefused before.map now.loads now.taken index result) →
-        (NotUpgraded result ready.bytes → ⊥) → ((newest : List ℕ) → Saved result name newest before now → ⊥) → IsGood result
-    upgrade-other result ends refused unwritten unsaved = absurd (upgrade-none result ends refused unwritten unsaved)
-
-    -- a call of `upgrade`
-    pub upgrade-good : (result : Outcome) → EndsUpgrade result index name before now steps_before steps_now →
-        (result ≢ outcome.SaveFailed) →
-        (Rose before.load_faults now.load_faults → ⊥) → IsGood result
-    upgrade-good outcome.Done ends save calm = inl refl
-    upgrade-good outcome.Memory ends save calm = inr refl
-    upgrade-good outcome.SaveFailed ends save calm = absurd (save refl)
-    upgrade-good outcome.LoadFailed ends save calm = elim (ends.loading.load_failed refl) [
-      | inl rose ↦ absurd (calm rose)
-      | inr missing ↦ absurd (file_named-found before.map ready.files index ready.bytes ready.told ready.holds missing)
-    ]
-    upgrade-good (outcome.Flaw flaw) ends save calm = upgrade-other _ ends (λ refused. refused)
-        (λ flawed. let both : Some flaw ≡ None = sym flawed ∙ first_flaw-file ready.bytes ready.parts ready.file in cc)
-        (λ newest none. none)
-    upgrade-good (outcome.Words place) ends save calm =
-        upgrade-other _ ends (λ refused. refused) (λ none. none) (λ newest none. none)
-    upgrade-good (outcome.Limit kind size) ends save calm =
-        upgrade-other _ ends (λ refused. refused) (λ none. none) (λ newest none. none)
-    upgrade-good (outcome.Settings setting left right) ends save calm =
-        upgrade-other _ ends (λ refused. refused) (λ none. none) (λ newest none. none)
-    upgrade-good (outcome.Common object) ends save calm =
-        upgrade-other _ ends (λ refused. refused) (λ none. none) (λ newest none. none)
-    upgrade-good (outcome.Row nth field fault) ends save calm =
-        upgrade-other _ ends (λ refused. refused) (λ none. none) (λ newest none. none)
-    upgrade-good outcome.Empty ends save calm =
-        upgrade-other _ ends (λ refused. refused) (λ none. none) (λ newest none. none)
-    upgrade-good outcome.ListenFailed ends save calm =
-        upgrade-other _ ends (λ refused. refused) (λ none. none) (λ newest none. none)
-    upgrade-good outcome.SayFailed ends save calm =
-        upgrade-other _ ends (λ refused. refused) (λ none. none) (λ newest none. none)
-
 module _ (result : Outcome) (settings : SampleSettings) (unsaid : Type 0) (given : List ℕ → List ℕ) (before now : Speech)
     (plain : IsPlain given)
   where
-    -- a sample that is accepted ends in no outcome of which nothing of a summary is told
-    sums-none : (other : Outcome) → (other ≢ outcome.Memory) →
-        ((text : List ℕ) → Told other text before.said now.said → ⊥) → result ≡ other →
-        (((result ≡ outcome.Memory) × SumsNothing unsaid before now) ⊎ SumsSample result settings unsaid given before now) → ⊥
-    sums-none other apart untold is (inl memory) = apart (sym is ∙ memory.0)
-    sums-none other apart untold is (inr sums) = elim (sums.plain plain) [
-      | inl memory ↦ apart (sym is ∙ memory.0)
-      | inr over ↦
-          let text = summary_of (chart_in (parts_of (sample_chart settings))) (facts_of (parts_of (sample_chart settings)))
-          settings.instants in
-          let Tells : Outcome → Type 0 = λ these. Told these text before.said now.said in
-          untold text (subst Tells is over.told)
-    ]
-
     -- a call of `sample`
     pub sample-good : (files_before files_now : FilesState) →
         EndsSample result settings unsaid files_before files_now given before now → sample_refusal settings ≡ None →
         ((place : ℕ) → result ≢ outcome.Words place) → (result ≢ outcome.LoadFailed) →
         (result ≢ outcome.SaveFailed) → (result ≢ outcome.ListenFailed) → (result ≢ outcome.SayFailed) → IsGood result
-    sample-good files_before files_now ends accepted words load save listen say =
-        by_cause result words load save listen say
-        (λ refusal. let both : Some result ≡ None = sym (ends.refused refusal).0 ∙ accepted in cc)
-        (λ flaw is. sums-none (outcome.Flaw flaw) (λ memory. cc) (λ text told. told) is (ends.accepted (ap is_bytes_refusal is)))
-        (λ value is. sums-none (outcome.Limit limit.Questions value) (λ memory. cc) (λ text told. told) is
-        (ends.accepted (ap is_bytes_refusal is)))
-        (λ setting left right is. sums-none (outcome.Settings setting left right) (λ memory. cc) (λ text told. told) is
-        (ends.accepted (ap is_bytes_refusal is)))
-        (λ object is. sums-none (outcome.Common object) (λ memory. cc) (λ text told. told) is
-        (ends.accepted (ap is_bytes_refusal is)))
+    sample-good files_before files_now ends accepted words load save listen say = grind (arith)

@@ -1,22 +1,16 @@
 -- How a call of `extend` ends: what is saved is what is built from all rows, and all is done where all is there.
-use Rattle.std.proofs.Common.{◌≡◌, ◌≢◌, ℕ, ◌+◌, ◌≤◌, nat_lt, List, [], ◌∷◌, length, Option, Some, None, ◌⊎◌}
+use Rattle.std.proofs.Common.{◌≡◌, ◌≢◌, ℕ, ◌+◌, ◌≤◌, List, [], Option, Some, None, ◌⊎◌, arith}
 use Rattle.std.proofs.Common.{inl, inr, refl, sym, ap, ◌∙◌, subst}
-use Rattle.std.proofs.lemmas.Bool.{cases_Bool}
 use Rattle.history.specs.Loads.{Load}
 use Rattle.host_ports.specs.FileMap.{FileMap}
 use Rattle.host_ports.specs.Faults.{Rose}
 use Rattle.track_types.specs.Chart.{ChartView}
 use Rattle.track_types.specs.Limits.{limit_of}
-use Rattle.track_types.specs.declared.limit.LimitKind.{LimitKind}
 use Rattle.track_types.specs.declared.limit.LimitKind.TheVariants as limit
 use Rattle.track_types.specs.declared.parts.Parts.{Parts}
-use Rattle.track_types.specs.declared.raw_row.RawRow.{RawRow}
 use Rattle.list_laws.specs.Ordered.{ordered}
 use Rattle.row_reader.specs.Rows.{raws_of}
-use Rattle.row_reader.specs.declared.fault.RowsFault.{RowsFault}
-use Rattle.row_reader.specs.declared.fault.RowsFault.TheVariants as rows
 use Rattle.gridding.specs.ChartOf.{chart_rows, last_of_each_instant}
-use Rattle.gridding.specs.GridLimit.{grid_limit}
 use Rattle.chart_parts.specs.PartsOf.{parts_of}
 use Rattle.index_file.specs.File.{file_bytes}
 use Rattle.path_union.specs.Union.{rows_of_tail}
@@ -25,8 +19,8 @@ use Rattle.gract_top.specs.Beginning.{Progress, SavesNothing}
 use Rattle.gract_top.specs.Completeness.{HasIndex, HasTail}
 use Rattle.gract_top.specs.Ends.{EndsExtend, ExtendsParts, SavesExtension}
 use Rattle.gract_top.specs.Extending.{IsExtendedAsBuilt, NotExtended, extension_bytes}
-use Rattle.gract_top.specs.Loading.{FileCame, load_of}
-use Rattle.gract_top.specs.Refusal.{file_refusal, grid_refusal, length_refusal, rows_refusal}
+use Rattle.gract_top.specs.Loading.{FileCame}
+use Rattle.gract_top.specs.Refusal.{file_refusal}
 use Rattle.gract_top.specs.TailOpening.{IsTail, OpensTailed, StopsAtEither, settings_in}
 use Rattle.gract_top.specs.declared.outcome.Outcome.{Outcome}
 use Rattle.gract_top.specs.declared.outcome.Outcome.TheVariants as outcome
@@ -36,28 +30,10 @@ use Rattle.gract_top.proofs.CompletenessLemmas.{IsGood, came-whole}
 use Rattle.gract_top.proofs.EndsLemmas.{Saved-done, Saved-loaded}
 use Rattle.gract_top.proofs.TailOpeningLemmas.{OpensTailed-unsaved, StopsAtEither-good, StopsAtEither-unsaved, tail-short, unsaved-twice}
 
--- a quantity past its limit is told, and not that there is no row
-grid_refusal-some : (past : Option (LimitKind × ℕ)) → grid_refusal past ≡ Some outcome.Empty → ⊥
-grid_refusal-some None is = absurd (cc)
-grid_refusal-some (Some (kind, value)) is = absurd (cc)
-
--- rows that are refused for being none are none
-rows_refusal-empty : (fault : Option RowsFault) (raws : List RawRow) (settings : Settings) →
-    rows_refusal fault raws settings ≡ Some outcome.Empty → raws ≡ []
-rows_refusal-empty (Some (rows.Row nth field fault)) raws settings is = absurd (cc)
-rows_refusal-empty (Some (rows.Limit value)) raws settings is = absurd (cc)
-rows_refusal-empty (Some rows.Memory) raws settings is = absurd (cc)
-rows_refusal-empty None [] settings is = refl
-rows_refusal-empty None (first ∷ others) settings is =
-    absurd (grid_refusal-some (grid_limit (first ∷ others) settings.cell settings.tick settings.period) is)
-
 -- and so are those of a file
 file_refusal-empty : (bytes : List ℕ) (settings : Settings) → file_refusal bytes settings ≡ Some outcome.Empty →
     raws_of bytes ≡ []
-file_refusal-empty bytes settings is = elim (cases_Bool (nat_lt (limit_of limit.Csv) (length bytes))) [
-  | inl long ↦ absurd (let other = rw long at is in cc)
-  | inr short ↦ rows_refusal-empty _ (raws_of bytes) settings (rw short at is)
-]
+file_refusal-empty bytes settings is = grind (arith)
 
 -- no raw row has a row
 chart_rows-none : (cell tick : ℕ) → [] ≡ chart_rows [] cell tick
@@ -68,10 +44,7 @@ module _ (map : Option FileMap) (loads : List Load) (taken : ℕ) (csv : List �
   -- the bytes that came of a file are one
   came-one : (limit : ℕ) (one other : List ℕ) → FileCame map loads taken csv limit one →
       FileCame map loads taken csv limit other → one ≡ other
-  came-one limit one other first second =
-      let both : Some (load_of csv limit one) ≡ Some (load_of csv limit other) = sym first.history ∙ second.history in
-      let same : load_of csv limit one ≡ load_of csv limit other = cc in
-      ap (λ (load : Load). load.bytes) same
+  came-one limit one other first second = grind (arith)
 
   -- the rows of a tail are those of the bytes that came of its file
   tail-rows : (settings : Settings) (tail : Option ChartView) (bytes : List ℕ) → IsTail map loads taken csv settings tail →
@@ -89,8 +62,7 @@ module _ (map : Option FileMap) (loads : List Load) (taken : ℕ) (csv : List �
   -- some bytes came of it
   tail-came : (settings : Settings) (tail : Option ChartView) → IsTail map loads taken csv settings tail →
       (bytes : List ℕ) × FileCame map loads taken csv (limit_of limit.Csv) bytes
-  tail-came settings (Some chart) is = (is.bytes, is.came)
-  tail-came settings None is = (is.bytes, is.came)
+  tail-came settings tail is = grind (arith)
 
   -- what is saved of an index and a tail is what is built from all raw rows of both
   pub extended-as_built : (parts : Parts) (tail : Option ChartView) → IsTail map loads taken csv (settings_in parts) tail →

@@ -1,4 +1,5 @@
 pub mod LoadingLemmas
+pub mod StoppingLemmas
 mod ReceivingLemmas
 pub mod OutcomeLemmas
 pub mod EndsLemmas

@@ -1,6 +1,6 @@
 -- What came of a file that is too long.
-use Rattle.std.proofs.Common.{◌≡◌, ◌+◌, ◌<◌, ◌≤◌, ◌++◌, ℕ, true, false, not, nat_lt, Option, Some, None, length, List, [], ◌∷◌}
-use Rattle.std.proofs.Common.{append-nil, take_all, refl, sym, ◌∙◌, arith, append_assoc, length-append}
+use Rattle.std.proofs.Common.{◌≡◌, ◌+◌, ◌<◌, ◌≤◌, ◌++◌, ℕ, true, false, not, nat_lt, Option, Some, None, length, List, [], ◌∷◌, arith}
+use Rattle.std.proofs.Common.{append-nil, take_all, refl, sym, ◌∙◌, append_assoc, length-append}
 use Rattle.std.proofs.lemmas.Bool.Decides.{nat_tests}
 use Rattle.std.proofs.Math.Seq.{take-append_seam}
 use Rattle.std.specs.Io.KnownBytes.{Consumes, IsAtEnd, prepend_known}
@@ -8,13 +8,8 @@ use Rattle.history.specs.Loads.{Load, is_end}
 use Rattle.host_ports.specs.FileMap.{FileMap, IsOpened}
 use Rattle.track_types.specs.Limits.{limit_of}
 use Rattle.track_types.specs.declared.limit.LimitKind.{LimitKind}
-use Rattle.track_types.specs.declared.limit.LimitKind.TheVariants as limit
-use Rattle.row_reader.specs.Rows.{csv_fault, raws_of}
-use Rattle.row_reader.specs.declared.fault.RowsFault.{RowsFault}
 use Rattle.gract_top.specs.Loading.{HoldsFront, IsLoaded}
-use Rattle.gract_top.specs.Refusal.{IsLengthRefused, IsRefused, length_refusal, rows_refusal}
-use Rattle.gract_top.specs.declared.request.Settings.{Settings}
-use Rattle.gract_top.specs.declared.outcome.Outcome.{Outcome}
+use Rattle.gract_top.specs.Refusal.{IsLengthRefused, length_refusal}
 use Rattle.gract_top.specs.declared.outcome.Outcome.TheVariants as outcome
 
 module _ (name : List ℕ) (limit : ℕ) (before piece : List ℕ) (past : length (before ++ piece) ≡ limit + 1) where
@@ -30,8 +25,7 @@ module _ (name : List ℕ) (limit : ℕ) (before piece : List ℕ) (past : lengt
 
 -- a piece with a byte is no end
 piece-left : (piece : List ℕ) → 0 < length piece → is_end piece ≡ false
-piece-left [] some = absurd (omega (arith, some))
-piece-left (byte ∷ others) some = refl
+piece-left piece some = grind (arith)
 
 -- what is longer than its limit is not all of a file
 past-is : (limit : ℕ) (bytes : List ℕ) → limit < length bytes → not (nat_lt limit (length bytes)) ≡ false
@@ -95,13 +89,3 @@ IsLoaded-end kind map loads taken older name bytes piece rest now counted short 
 pub length_refusal-short : (kind : LimitKind) (bytes : List ℕ) → length bytes ≤ limit_of kind →
     length_refusal kind bytes ≡ None
 length_refusal-short kind bytes short = grind (arith, nat_tests, short)
-
--- a file of which all bytes came is refused for its rows
-pub IsRefused-rows : (map : Option FileMap) (loads : List Load) (taken : ℕ) (csv bytes : List ℕ) (settings : Settings) (fault : RowsFault)
-    (cause : Outcome) → IsLoaded limit.Csv map loads taken csv bytes → csv_fault bytes ≡ Some fault →
-    rows_refusal (Some fault) (raws_of bytes) settings ≡ Some cause → IsRefused map loads taken csv settings cause
-IsRefused-rows map loads taken csv bytes settings fault cause loaded first answered = record {
-  bytes = bytes;
-  came = loaded.came;
-  refusal = rw (length_refusal-short limit.Csv bytes loaded.short, first) answered;
-}

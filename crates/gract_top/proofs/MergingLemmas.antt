@@ -1,6 +1,5 @@
 -- How a merge ends, and that it is done or out of memory where the files are there and have a union and no device fails.
 use Rattle.std.proofs.Common.{◌≡◌, ◌≢◌, ℕ, ◌+◌, ◌≤◌, List, Some, None, ◌⊎◌, inl, inr, refl, sym, ap, ◌∙◌, subst}
-use Rattle.host_ports.specs.FilesState.{FilesState}
 use Rattle.host_ports.specs.Faults.{Rose}
 use Rattle.track_types.specs.declared.parts.Parts.{Parts}
 use Rattle.chart_parts.specs.PartsOf.{parts_of}

@@ -1,21 +1,18 @@
 -- A summary said piece by piece.
-use Rattle.std.proofs.Common.{◌≡◌, ℕ, ◌+◌, ◌≤◌, false, List, [], ◌∷◌, ◌++◌, length, take, drop, Option, Result, Ok, Err, Some}
-use Rattle.std.proofs.Common.{IfErr, OnErr, None, refl, sym, ap, ◌∙◌, arith, append-nil, append_assoc, subst}
+use Rattle.std.proofs.Common.{◌≡◌, ℕ, ◌+◌, ◌≤◌, List, [], ◌∷◌, ◌++◌, take, drop, Option, Result, Ok, Err, Some, arith}
+use Rattle.std.proofs.Common.{IfErr, OnErr, None, refl, sym, ap, ◌∙◌, append-nil, append_assoc}
 use Rattle.std.proofs.lemmas.List.{take-append-drop}
 use Rattle.std.proofs.lemmas.List.Sums.{sum_by-cons}
-use mathlib.Core.Bool.{false≢true}
 use Rattle.host_ports.specs.Histories.{Gains}
 use Rattle.std.specs.List.{sum_by}
 use Rattle.host_ports.specs.declared.fault.Cut.{Cut}
-use Rattle.question_shell.specs.Desk.{DeskView, budget_of, empty_desk, held_of}
-use Rattle.question_shell.specs.Reply.{asked_cost, desk_of, listed, ok_line, own_cost, slot_cost, slot_desk}
+use Rattle.question_shell.specs.Desk.{DeskView, empty_desk}
+use Rattle.question_shell.specs.Reply.{asked_cost, desk_of, listed, ok_line, slot_desk}
 use Rattle.question_shell.specs.Session.{Meaning}
 use Rattle.question_shell.specs.SlotParts.{OfNoSlot, SlotPart, slot_part}
 use Rattle.question_shell.specs.Turns.{AnswerTold, moment}
 use Rattle.question_shell.specs.declared.turn_fault.TurnFault.{TurnFault}
-use Rattle.question_shell.specs.declared.turn_fault.TurnFault.TheVariants as fault
-use Rattle.question_shell.proofs.SaysLemmas.{Gains-append, Gains-nothing, Gains-says}
-use Rattle.question_shell.proofs.SlotLemmas.{own_cost-within}
+use Rattle.question_shell.proofs.SaysLemmas.{Gains-append, Gains-nothing}
 use Rattle.track_types.specs.Chart.{ChartView}
 use Rattle.track_types.specs.declared.facts.Facts.{Facts}
 use Rattle.track_types.specs.declared.question.Question.{Question}
@@ -26,8 +23,7 @@ use Rattle.gract_top.specs.Summary.{IsSlotless, IsOfNoSlot, count_line, counts_o
 
 -- a question that is counted asks nothing of a slot
 of-no-slot : (asked : Question) (part : SlotPart) → IsOfNoSlot asked part → part ≡ OfNoSlot
-of-no-slot asked OfNoSlot counted = refl
-of-no-slot asked other counted = absurd counted
+of-no-slot asked part counted = grind (arith)
 
 -- it leaves the desk as it is
 pub counted-desk : (chart : ChartView) (desk : List (Option (List Stop))) (asked : Question) → IsSlotless asked →
@@ -37,9 +33,7 @@ counted-desk chart desk asked counted = ap (slot_desk chart desk) (of-no-slot as
 -- and costs no more than it may
 pub counted-cost : (cost : Question → ℕ) (desk : List (Option (List Stop))) (asked : Question) → IsSlotless asked →
     asked_cost cost desk (Ok (Some asked)) ≤ cost asked
-counted-cost cost desk asked counted =
-    subst (λ (part : SlotPart). slot_cost (own_cost cost asked) cost desk part ≤ cost asked)
-    (sym (of-no-slot asked (slot_part asked) counted)) (own_cost-within cost asked)
+counted-cost cost desk asked counted = grind (arith)
 
 -- the reply to `info` was said, or a front of it
 module _ (meaning : Meaning) (said0 said : List ℕ) (desk : DeskView) (steps0 steps : ℕ) where
@@ -49,23 +43,7 @@ module _ (meaning : Meaning) (said0 said : List ℕ) (desk : DeskView) (steps0 s
   pub info-front : (refused : TurnFault) → AnswerTold meaning (moment said0 [] empty_desk steps0)
       (moment said [] desk steps) (Ok (Some question.Info)) (Err refused) →
       SaysFront said0 said info × (steps ≤ steps0)
-  info-front fault.Say told = (
-    record {
-      front = told.said.says.sent;
-      unsaid = told.said.unsaid;
-      split = told.said.says.split;
-      said = told.said.says.said;
-    },
-    omega (arith, told.reads, no_budget),
-  )
-    where
-      no_budget : budget_of empty_desk ≡ 0
-      no_budget = refl
-  info-front fault.Memory told = absurd (false≢true told.takes)
-
--- nothing of a text was said
-pub SaysFront-none : (said : List ℕ) (text : List ℕ) → SaysFront said said text
-SaysFront-none said text = record { front = []; unsaid = text; split = refl; said = Gains-nothing said }
+  info-front refused told = grind (arith)
 
 -- a front of a text is one of a longer text
 pub SaysFront-more : (before now : List ℕ) (text more : List ℕ) → SaysFront before now text →
@@ -158,13 +136,3 @@ module _ (chart : ChartView) (facts : Facts) (cost : Question → ℕ) where
       end ≤ before.steps + sum_by cost all
   IsCounting-read all left rest asked before now end counting cut read =
       let sums = ap (sum_by cost) cut ∙ sum_by-cons cost asked rest in omega (arith, counting.reads, read, sums)
-
-  -- nothing more was said
-  pub IsCounting-stopped : (all left : List Question) (before now : Speech) → IsCounting all left before now →
-      SaysFront before.said now.said (counts_of chart facts all)
-  IsCounting-stopped all left before now counting = record {
-    front = counting.done;
-    unsaid = counts_of chart facts left;
-    split = counting.whole;
-    said = counting.said;
-  }

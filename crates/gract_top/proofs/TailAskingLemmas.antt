@@ -1,6 +1,6 @@
 -- How a call of `ask` with a tail ends, and that it does all where all is there.
-use Rattle.std.proofs.Common.{◌≡◌, ◌≢◌, ℕ, ◌+◌, ◌≤◌, false, List, Option, ◌⊎◌}
-use Rattle.std.proofs.Common.{inl, inr, refl, sym, ap, ◌∙◌, subst, arith}
+use Rattle.std.proofs.Common.{◌≡◌, ◌≢◌, ℕ, false, List, Option, arith}
+use Rattle.std.proofs.Common.{inl, inr, sym, ap, ◌∙◌, subst}
 use mathlib.Core.Bool.{false≢true}
 use Rattle.host_ports.specs.FilesState.{FilesState}
 use Rattle.host_ports.specs.Faults.{Rose}
@@ -15,7 +15,7 @@ use Rattle.track_index.proofs.DecidingLemmas.{parts_in-file}
 use Rattle.track_index.proofs.OpeningLemmas.{bytes_cost-read}
 use Rattle.gract_top.specs.Beginning.{progress}
 use Rattle.gract_top.specs.Completeness.{HasIndex, HasQuestions, HasTail}
-use Rattle.gract_top.specs.Outcome.{Answered, AnswersSource, Talk}
+use Rattle.gract_top.specs.Outcome.{AnswersSource, Talk}
 use Rattle.gract_top.specs.Refusal.{is_early}
 use Rattle.gract_top.specs.TailAsking.{AnswersTailed, EndsAskTail, tailed_meaning}
 use Rattle.gract_top.specs.TailOpening.{OpensTailed, StopsAtEither, settings_in}
@@ -23,7 +23,7 @@ use Rattle.gract_top.specs.declared.outcome.Outcome.{Outcome}
 use Rattle.gract_top.specs.declared.outcome.Outcome.TheVariants as outcome
 use Rattle.gract_top.proofs.CompletenessLemmas.{IsGood, by_cause, questions-short}
 use Rattle.gract_top.proofs.EndsLemmas.{is_early-refusal}
-use Rattle.gract_top.proofs.TailOpeningLemmas.{OpensTailed-unsaved, StopsAtEither-good, StopsAtEither-unsaved}
+use Rattle.gract_top.proofs.TailOpeningLemmas.{OpensTailed-unsaved, StopsAtEither-good}
 
 -- the bytes of an index file are opened within the cost of its parts
 pub bytes_cost-file : (bytes : List ℕ) (parts : Parts) → IsFile bytes parts → bytes_cost bytes ≡ open_cost parts
@@ -45,10 +45,7 @@ module _ (result : Outcome) (index csv : List ℕ) (untouched : Type 0) (files_b
     -- a call that ended at one of its files
     pub EndsAskTail-stopped : StopsAtEither result index csv (progress files_before before.steps) (progress files_now now.steps) →
         untouched → EndsAskTail result index csv untouched files_before files_now before now
-    EndsAskTail-stopped stops same = record {
-      unsaved = StopsAtEither-unsaved result index csv (progress files_before before.steps) (progress files_now now.steps) stops;
-      ended = inl (stops, same);
-    }
+    EndsAskTail-stopped stops same = grind (arith)
 
     -- a call that went on from both
     pub EndsAskTail-opened : (parts : Parts) (tail : Option ChartView) (opened : ℕ) → is_early result ≡ false →

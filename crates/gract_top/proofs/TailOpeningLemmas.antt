@@ -1,8 +1,6 @@
 -- What a call came to at an index file and its tail.
-use Rattle.std.proofs.Common.{◌≡◌, ◌≢◌, ℕ, ◌+◌, ◌≤◌, true, false, nat_lt, List, [], ◌∷◌, length, Option, Some, None, ◌⊎◌}
-use Rattle.std.proofs.Common.{inl, inr, refl, sym, ap, ◌∙◌, subst, arith}
-use Rattle.std.proofs.lemmas.Bool.{cases_Bool}
-use Rattle.std.proofs.lemmas.Bool.Decides.{nat_tests}
+use Rattle.std.proofs.Common.{◌≡◌, ◌≢◌, ℕ, ◌≤◌, true, List, length, Option, Some, None, ◌⊎◌, arith}
+use Rattle.std.proofs.Common.{inl, inr, sym, ap, ◌∙◌, subst}
 use mathlib.Core.Bool.{false≢true}
 use Rattle.history.specs.Loads.{Load}
 use Rattle.host_ports.specs.FileMap.{FileMap}
@@ -12,10 +10,11 @@ use Rattle.track_types.specs.Chart.{ChartView}
 use Rattle.track_types.specs.Limits.{limit_of}
 use Rattle.track_types.specs.declared.limit.LimitKind.TheVariants as limit
 use Rattle.track_types.specs.declared.parts.Parts.{Parts}
-use Rattle.gract_top.specs.Beginning.{EndsLoading, OpensFile, Progress, SavesNothing, StopsAtIndex}
+use Rattle.gract_top.specs.Beginning.{OpensFile, Progress, SavesNothing, progress}
 use Rattle.gract_top.specs.Completeness.{HasIndex, HasTail}
 use Rattle.gract_top.specs.Refusal.{file_refusal, is_late, is_bytes_refusal}
-use Rattle.gract_top.specs.TailOpening.{GridsTail, HasNoTail, IsTail, OpensTailed, StopsAtEither, StopsAtTail, settings_in}
+use Rattle.gract_top.specs.Stopping.{LoadsTail, StopsWithoutTail}
+use Rattle.gract_top.specs.TailOpening.{GridsTail, HasNoTail, OpensTailed, StopsAtEither, StopsAtTail, settings_in}
 use Rattle.gract_top.specs.declared.outcome.Outcome.{Outcome}
 use Rattle.gract_top.specs.declared.outcome.Outcome.TheVariants as outcome
 use Rattle.gract_top.specs.declared.request.Settings.{Settings}
@@ -25,44 +24,40 @@ use Rattle.gract_top.proofs.CompletenessLemmas.{IsGood, by_cause, came-whole, fi
 -- nothing was saved twice
 pub unsaved-twice : (before between now : FilesState) → SavesNothing before between → SavesNothing between now →
     SavesNothing before now
-unsaved-twice before between now one two = record {
-  map = two.map ∙ one.map;
-  saves = two.saves ∙ one.saves;
-  saved = two.saved ∙ one.saved;
-}
+unsaved-twice before between now one two = grind (arith)
 
 -- a call that ended at a file saved nothing
 pub StopsAtEither-unsaved : (result : Outcome) (index csv : List ℕ) (before now : Progress) →
     StopsAtEither result index csv before now → SavesNothing before.files now.files
-StopsAtEither-unsaved result index csv before now (inl stops) = stops.unsaved
-StopsAtEither-unsaved result index csv before now (inr (parts, between, opens, stops)) =
-    unsaved-twice before.files between.files now.files opens.unsaved stops.unsaved
+StopsAtEither-unsaved result index csv before now stops = grind (arith)
 
 -- nor did one that opened both
 pub OpensTailed-unsaved : (index csv : List ℕ) (parts : Parts) (tail : Option ChartView) (before now : Progress) →
     OpensTailed index csv parts tail before now → SavesNothing before.files now.files
-OpensTailed-unsaved index csv parts tail before now opens =
-    unsaved-twice before.files opens.between.files now.files opens.opens.unsaved opens.grids.unsaved
+OpensTailed-unsaved index csv parts tail before now opens = grind (arith)
 
--- the tail of settings that are those of an index
-pub IsTail-of : (map : Option FileMap) (loads : List Load) (taken : ℕ) (csv : List ℕ) (tail : Option ChartView)
-    (settings known : Settings) → settings ≡ known → IsTail map loads taken csv settings tail → IsTail map loads taken csv known tail
-IsTail-of map loads taken csv tail settings known by is = subst (λ these. IsTail map loads taken csv these tail) by is
+-- a tail that was loaded by the settings of an index
+pub GridsTail-loaded : (parts : Parts) (csv : List ℕ) (tail : Option ChartView) (settings : Settings)
+    (before now : FilesState) (steps : ℕ) → settings ≡ settings_in parts → LoadsTail csv settings tail before now →
+    GridsTail parts csv tail (progress before steps) (progress now steps)
+GridsTail-loaded parts csv tail settings before now steps by loads = grind (arith)
 
--- and what gave none
-pub HasNoTail-of : (result : Outcome) (map : Option FileMap) (loads : List Load) (taken : ℕ) (csv : List ℕ)
-    (settings known : Settings) → settings ≡ known → HasNoTail result map loads taken csv settings →
-    HasNoTail result map loads taken csv known
-HasNoTail-of result map loads taken csv settings known by none = subst (HasNoTail result map loads taken csv) by none
+-- both files gave what they have
+pub OpensTailed-loaded : (index csv : List ℕ) (parts : Parts) (tail : Option ChartView) (before between now : Progress) →
+    OpensFile index parts before between → GridsTail parts csv tail between now → OpensTailed index csv parts tail before now
+OpensTailed-loaded index csv parts tail before between now opens grids = grind (arith)
+
+-- a call that ended at the file of a tail
+pub StopsAtTail-stopped : (result : Outcome) (parts : Parts) (csv : List ℕ) (settings : Settings)
+    (before now : FilesState) (steps : ℕ) → settings ≡ settings_in parts →
+    StopsWithoutTail result csv settings before now → StopsAtTail result parts csv (progress before steps) (progress now steps)
+StopsAtTail-stopped result parts csv settings before now steps by stops = grind (arith)
 
 -- a tail is not too long
 pub tail-short : (bytes : List ℕ) (settings : Settings) →
     (file_refusal bytes settings ≡ None) ⊎ (file_refusal bytes settings ≡ Some outcome.Empty) →
     length bytes ≤ limit_of limit.Csv
-tail-short bytes settings accepted = elim (cases_Bool (nat_lt (limit_of limit.Csv) (length bytes))) [
-  | inl long ↦ absurd (let other = rw long at accepted in elim other [ inl none ↦ cc | inr empty ↦ cc ])
-  | inr short ↦ grind (arith, nat_tests, short)
-]
+tail-short bytes settings accepted = grind (arith)
 
 -- a tail that is there and accepted, or has no row, is not refused
 tail-kept : (map : Option FileMap) (loads : List Load) (taken : ℕ) (csv : List ℕ) (settings : Settings) (cause : Outcome) →

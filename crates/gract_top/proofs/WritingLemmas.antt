@@ -1,5 +1,5 @@
 -- The parts of a chart are those of an index in the newest version.
-use Rattle.std.proofs.Common.{◌≡◌, ℕ, length, refl, sym, subst, ap}
+use Rattle.std.proofs.Common.{◌≡◌, length, refl, sym, subst, rules}
 use Rattle.track_types.specs.Chart.{ChartView}
 use Rattle.track_types.specs.declared.limit.TheConstants.{MAX_VERSION}
 use Rattle.track_types.specs.declared.parts.Parts.{Parts}
@@ -8,7 +8,7 @@ use Rattle.snapshots.specs.SoundParts.{IsValid}
 use Rattle.parts_order.specs.SettledParts.{settled_parts}
 use Rattle.chart_parts.specs.Header.{frame_of}
 use Rattle.chart_parts.specs.PartsOf.{compressed_parts_of, parts_of}
-use Rattle.index_file.specs.File.{IsFormed, IsNewest}
+use Rattle.index_file.specs.File.{IsNewest}
 
 version-parts_of : (chart : ChartView) → (parts_of chart).frame.version ≡ MAX_VERSION
 unfolding parts_of settled_parts compressed_parts_of frame_of
@@ -22,7 +22,3 @@ IsNewest-chart chart parts is valid order =
       newest = version-parts_of chart;
       ordered = record { valid = subst IsValid is valid; order = subst (λ parts. IsSettled (length parts.alphabet) parts.rules) is order };
     })
-
--- they have the form that a file holds
-pub IsFormed-newest : (parts : Parts) → IsNewest parts → IsFormed parts
-IsFormed-newest parts is = record { shaped = is.ordered.valid.shaped; ordered = λ silent. is.ordered }

@@ -8,8 +8,12 @@ pub mod Summary
 pub mod Sampling
 pub mod Upgrading
 pub mod Beginning
+pub mod Counting
+pub mod Saving
 pub mod Merging
+pub mod Faults
 pub mod TailOpening
+pub mod Stopping
 pub mod TailAsking
 pub mod Extending
 pub mod Ends

@@ -1,5 +1,5 @@
 -- What two index files are as one, or why they are not.
-use Rattle.std.specs.Prelude.{◌≡◌, ℕ, List, ◌++◌, Option, Some, None, ◌⊎◌}
+use Rattle.std.specs.Prelude.{◌≡◌, ℕ, List, ◌++◌, Some, ◌⊎◌}
 use Rattle.track_types.specs.declared.parts.Parts.{Parts}
 use Rattle.track_types.specs.declared.raw_row.RawRow.{RawRow}
 use Rattle.gridding.specs.ChartOf.{chart_of, chart_rows}

@@ -1,52 +1,37 @@
-ghost use Rattle.std.specs.Prelude.{◌≡◌, ◌≢◌, ℕ, ◌+◌, ◌≤◌, true, false, Err};
-ghost use Rattle.std.specs.Prelude.{IfOk, IfErr};
-ghost use Rattle.track_types.specs.Limits.{IsPeriod, IsResolution, limit_of};
-ghost use Rattle.gract_top.specs.Loading.{LoadsOnly};
+ghost use Rattle.std.specs.Prelude.{◌≡◌, ◌≤◌, ◌+◌, OnOk, IfOk, IfErr};
+ghost use Rattle.host_ports.specs.Meanings.{files_at};
+ghost use Rattle.track_types.specs.Limits.{IsResolution, limit_of};
+ghost use Rattle.gract_top.specs.Faults.{chart_outcome};
 ghost use Rattle.gract_top.specs.Receiving.{HasGriddedRows};
-ghost use Rattle.gract_top.specs.Refusal.{IsAccepted, IsRefused, is_late, is_bytes_refusal};
+ghost use Rattle.gract_top.specs.Request.{AreSettings};
+ghost use Rattle.gract_top.specs.Stopping.{LoadsChart, LoadsFile, StopsAtChart};
 ghost use Rattle.gract_top.specs.declared.request.Settings.{Settings};
 
+use crate::fault::ChartFault;
 use crate::loading::load;
-use crate::outcome::Outcome;
 use crate::request::Settings;
 use crate::rows_receiver::RowsReceiver;
-use gridding::{GridFault, GriddedRows};
+use gridding::GriddedRows;
 use host_ports::Files;
-use row_reader::RowsFault;
 use std::alloc::Global;
 use track_types::{Chart, LimitKind};
 
-// The chart of the CSV file of that name, or the outcome that it decides.
+// The chart of the CSV file of that name.
 pub(crate) fn load_chart<F: Files>(
     alloc: Global,
     csv: &str,
     settings: Settings,
     files: &mut F,
-) -> Result<Chart, Outcome>
-    requires cell { IsResolution settings.cell }
-    requires tick { IsResolution settings.tick }
-    requires period { IsPeriod settings.period }
-    ensures chart { IfOk result (λ chart.
-        IsAccepted (F.map files.old) (F.loads files.new) (F.taken files.new) csv.now settings chart) }
-    ensures early { IfErr result (λ outcome. is_late outcome ≡ false) }
-    ensures words { IfErr result (λ outcome. (place : ℕ) → outcome ≢ Outcome.Words place) }
-    ensures loads { LoadsOnly F.Files files.old files.new csv.now (result ≡ Err Outcome.LoadFailed) }
-    ensures refused { IfErr result (λ outcome. is_bytes_refusal outcome ≡ true →
-        IsRefused (F.map files.old) (F.loads files.new) (F.taken files.new) csv.now settings outcome) }
-    ensures csv_taken { (value : ℕ) → result ≡ Err (Outcome.Limit LimitKind.Csv value) →
-        (value ≡ limit_of LimitKind.Csv + 1) × (F.taken files.new ≡ value) }
-    ensures taken { F.taken files.new ≤ limit_of LimitKind.Csv + 1 }
+) -> Result<Chart, ChartFault>
+    requires { AreSettings settings }
+    ensures ok { IfOk result (λ chart. LoadsChart csv.now settings chart
+        (files_at F.Files files.old) (files_at F.Files files.new)) }
+    ensures err { IfErr result (λ fault. StopsAtChart (chart_outcome fault) csv.now settings
+        (files_at F.Files files.old) (files_at F.Files files.new)) }
+    ensures given { F.given files.new ≡ F.given files.old }
 {
-    let rows = match load_rows(alloc, csv, settings, files) {
-        Ok(rows) => rows,
-        Err(outcome) => return Err(outcome),
-    };
-    match rows.chart(alloc, settings.period) {
-        Ok(chart) => Ok(chart),
-        Err(GridFault::Empty) => Err(Outcome::Empty),
-        Err(GridFault::Limit { kind, value }) => Err(Outcome::Limit { kind, value }),
-        Err(GridFault::Memory) => Err(Outcome::Memory),
-    }
+    let rows = load_rows(alloc, csv, settings, files)?;
+    Ok(rows.chart(alloc, settings.period)?)
 }
 
 // The rows of the CSV file of that name, gridded.
@@ -55,29 +40,18 @@ fn load_rows<F: Files>(
     csv: &str,
     settings: Settings,
     files: &mut F,
-) -> Result<GriddedRows, Outcome>
+) -> Result<GriddedRows, ChartFault>
     requires cell { IsResolution settings.cell }
     requires tick { IsResolution settings.tick }
     ensures rows { IfOk result
         (HasGriddedRows (F.map files.old) (F.loads files.new) (F.taken files.new) csv.now settings) }
-    ensures early { IfErr result (λ outcome. is_late outcome ≡ false) }
-    ensures words { IfErr result (λ outcome. (place : ℕ) → outcome ≢ Outcome.Words place) }
-    ensures loads { LoadsOnly F.Files files.old files.new csv.now (result ≡ Err Outcome.LoadFailed) }
-    ensures refused { IfErr result (λ outcome. is_bytes_refusal outcome ≡ true →
-        IsRefused (F.map files.old) (F.loads files.new) (F.taken files.new) csv.now settings outcome) }
-    ensures csv_taken { (value : ℕ) → result ≡ Err (Outcome.Limit LimitKind.Csv value) →
-        (value ≡ limit_of LimitKind.Csv + 1) × (F.taken files.new ≡ value) }
-    ensures taken { F.taken files.new ≤ limit_of LimitKind.Csv + 1 }
+    ensures file { OnOk result (LoadsFile csv.now LimitKind.Csv
+        (files_at F.Files files.old) (files_at F.Files files.new)) }
+    ensures err { IfErr result (λ fault. StopsAtChart (chart_outcome fault) csv.now settings
+        (files_at F.Files files.old) (files_at F.Files files.new)) }
+    ensures given { F.given files.new ≡ F.given files.old }
 {
     let mut receiver = RowsReceiver::new(alloc, settings.cell, settings.tick);
     load(files, csv, LimitKind::Csv, &mut receiver)?;
-    match receiver.finish() {
-        Ok(rows) => Ok(rows),
-        Err(RowsFault::Row { nth, field, fault }) => Err(Outcome::Row { nth, field, fault }),
-        Err(RowsFault::Limit { value }) => Err(Outcome::Limit {
-            kind: LimitKind::Rows,
-            value,
-        }),
-        Err(RowsFault::Memory) => Err(Outcome::Memory),
-    }
+    Ok(receiver.finish()?)
 }

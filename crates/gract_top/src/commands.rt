@@ -1,7 +1,7 @@
-ghost use Rattle.std.specs.Prelude.{◌≡◌, ◌≢◌, ℕ, ◌+◌, ◌≤◌, ◌↔◌, ◌⊎◌};
-ghost use Rattle.host_ports.specs.Faults.{Rose};
-ghost use Rattle.track_types.specs.Limits.{limit_of};
+ghost use Rattle.std.specs.Prelude.{◌≡◌, ℕ, ◌↔◌, ◌⊎◌};
+ghost use Rattle.host_ports.specs.Meanings.{files_at};
 ghost use Rattle.gract_top.specs.Completeness.{IsCalm, IsReady};
+ghost use Rattle.gract_top.specs.Counting.{CountsFiles, CountsTalk};
 ghost use Rattle.gract_top.specs.Ends.{Ends, moment_of};
 ghost use Rattle.gract_top.specs.Request.{request_of};
 
@@ -18,7 +18,6 @@ use host_ports::{Files, Sink, Source};
 use std::alloc::Global;
 use std::sync::ledger::Ledger;
 use step_count::Steps;
-use track_types::LimitKind;
 
 /// Does what the command words ask, and answers how it ended.
 ///
@@ -62,46 +61,36 @@ pub fn gract<F: Files, S: Source, K: Sink, L: Ledger>(
         (moment_of F.Files S.Source K.Sink files.old source.old sink.old steps.old)
         (moment_of F.Files S.Source K.Sink files.new source.new sink.new steps.new) }
 
-    // Only the device that the outcome names counted a fault.
-    ensures load_untouched { result ≢ Outcome.LoadFailed →
-        F.load_faults files.new ≡ F.load_faults files.old }
-    ensures save_cause { result ≡ Outcome.SaveFailed →
-        Rose (F.save_faults files.old) (F.save_faults files.new) }
-    ensures save_untouched { result ≢ Outcome.SaveFailed →
-        F.save_faults files.new ≡ F.save_faults files.old }
-    ensures listen_cause { result ≡ Outcome.ListenFailed →
-        Rose (S.faults source.old) (S.faults source.new) }
-    ensures listen_untouched { result ≢ Outcome.ListenFailed →
-        S.faults source.new ≡ S.faults source.old }
-    ensures say_cause { result ≡ Outcome.SayFailed → Rose (K.faults sink.old) (K.faults sink.new) }
-    ensures say_untouched { result ≢ Outcome.SayFailed → K.faults sink.new ≡ K.faults sink.old }
+    // Only the device that the outcome names counted a fault. Of the questions at most one byte beyond their limit is
+    // asked for.
+    ensures counts { CountsFiles result (files_at F.Files files.old) (files_at F.Files files.new) }
+    ensures talk { CountsTalk S.Source K.Sink result source.old source.new sink.old sink.new }
 
     // Where what the request needs is there and no device fails, all is done, unless memory is refused.
     ensures complete { IsReady (request_of words.now)
         (moment_of F.Files S.Source K.Sink files.old source.old sink.old steps.old) →
         IsCalm F.Files S.Source K.Sink files.old files.new source.old source.new sink.old
         sink.new → (result ≡ Outcome.Done) ⊎ (result ≡ Outcome.Memory) }
-
-    // Of the questions at most one byte beyond their limit is asked for.
-    ensures within { S.taken source.new ≤ S.taken source.old + (limit_of LimitKind.Questions + 1) }
 {
     match read_request(words) {
         Request::Refused { place } => Outcome::Words { place },
         Request::Once { csv, settings } => {
-            once(alloc, csv, settings, files, source, sink, steps)
+            once(alloc, csv, settings, files, source, sink, steps).into()
         }
         Request::Build {
             csv,
             index,
             settings,
-        } => build(alloc, csv, index, settings, files),
-        Request::Ask { index } => ask(alloc, index, files, source, sink, steps),
+        } => build(alloc, csv, index, settings, files).into(),
+        Request::Ask { index } => ask(alloc, index, files, source, sink, steps).into(),
         Request::AskTail { index, tail } => {
-            ask_tail(alloc, index, tail, files, source, sink, steps)
+            ask_tail(alloc, index, tail, files, source, sink, steps).into()
         }
         Request::Sample { settings } => sample(alloc, settings, files, sink, steps),
-        Request::Upgrade { old, new } => upgrade(alloc, old, new, files, steps),
-        Request::Merge { left, right, out } => merge(alloc, left, right, out, files, steps),
-        Request::Extend { index, tail, out } => extend(alloc, index, tail, out, files, steps),
+        Request::Upgrade { old, new } => upgrade(alloc, old, new, files, steps).into(),
+        Request::Merge { left, right, out } => merge(alloc, left, right, out, files, steps).into(),
+        Request::Extend { index, tail, out } => extend(
+            alloc, index, tail, out, files, steps,
+        ).into(),
     }
 }

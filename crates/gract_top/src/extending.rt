@@ -1,23 +1,26 @@
-ghost use Rattle.std.specs.Prelude.{◌≡◌, ◌≢◌, ℕ, ◌+◌, ◌≤◌, ◌⊎◌, None, IfOk, IfErr, OnOk};
-ghost use Rattle.host_ports.specs.Counting.{SaveCounts};
+ghost use Rattle.std.specs.Prelude.{◌≡◌, ◌+◌, ◌≤◌, ◌<◌, ◌⊎◌, None, IfOk, IfErr, IfSome, OnOk};
 ghost use Rattle.host_ports.specs.Meanings.{files_at};
-ghost use Rattle.gridding.specs.GridLimit.{IsGridFaultFor};
 ghost use Rattle.index_merge.specs.Extension.{extension_cost, extension_fault, IsAsBuilt};
 ghost use Rattle.path_union.specs.Union.{rows_of_tail};
 ghost use Rattle.gract_top.specs.Beginning.{SavesNothing, progress};
+ghost use Rattle.gract_top.specs.Counting.{CountsFiles};
 ghost use Rattle.gract_top.specs.Ends.{EndsExtend, SavesExtension};
-ghost use Rattle.gract_top.specs.Extending.{NotExtended, extension_bytes, extension_outcome};
+ghost use Rattle.gract_top.specs.Extending.{NotExtended, extension_bytes};
+ghost use Rattle.gract_top.specs.Faults.{chart_outcome, ended, save_outcome};
+ghost use Rattle.gract_top.specs.Saving.{SavesOnly};
 
 use crate::building::save_as;
 use crate::chart_writing::index_bytes;
-use crate::outcome::Outcome;
-use crate::tail_opening::{IndexAndTail, open_with_tail};
-use gridding::GridFault;
+use crate::fault::{ChartFault, SaveFault};
+use crate::index_opening::open_file;
+use crate::tail_opening::{load_tail, settings_of};
 use host_ports::Files;
 use index_merge::extended;
 use std::alloc::Global;
 use std::sync::ledger::Ledger;
 use step_count::Steps;
+use track_index::Index;
+use track_types::Chart;
 
 // Saves what the index file of one name holds and the rows of the CSV file of another as one index under a third name.
 // Where both have a row of an object and an instant, the CSV file's counts. The CSV file is begun once the index is
@@ -29,88 +32,55 @@ pub(crate) fn extend<F: Files, L: Ledger>(
     out: &str,
     files: &mut F,
     steps: &mut Steps<L>,
-) -> Outcome
-    ensures ends { EndsExtend result index.now tail.now out.now
+) -> Result<(), SaveFault>
+    ensures ends { EndsExtend (ended save_outcome result) index.now tail.now out.now
         (progress (files_at F.Files files.old) steps.old)
         (progress (files_at F.Files files.new) steps.new) }
-    ensures words { (place : ℕ) → result ≢ Outcome.Words place }
-    ensures unheard { result ≢ Outcome.ListenFailed }
-    ensures unsaid { result ≢ Outcome.SayFailed }
-    ensures load_untouched { result ≢ Outcome.LoadFailed →
-        F.load_faults files.new ≡ F.load_faults files.old }
-    ensures save_faults { SaveCounts F.Files files.old files.new (result ≡ Outcome.SaveFailed) }
+    ensures counts { CountsFiles (ended save_outcome result)
+        (files_at F.Files files.old) (files_at F.Files files.new) }
     ensures given { F.given files.new ≡ F.given files.old }
 {
-    match open_with_tail(alloc, index, tail, files, steps) {
-        Ok(both) => save_extension(alloc, both, out, files, steps),
-        Err(outcome) => outcome,
-    }
+    let index = open_file(alloc, index, files, steps)?;
+    let tail = load_tail(alloc, tail, settings_of(&index), files)?;
+    save_extension(alloc, index, tail, out, files, steps)
 }
 
 // Saves the index of what an index holds and its tail under a name.
 fn save_extension<F: Files, L: Ledger>(
     alloc: Global,
-    both: IndexAndTail,
+    index: Index,
+    tail: Option<Chart>,
     out: &str,
     files: &mut F,
     steps: &mut Steps<L>,
-) -> Outcome
-    ensures ended { (NotExtended result both.index both.tail × SavesNothing
+) -> Result<(), SaveFault>
+    ensures ended { (NotExtended (ended save_outcome result) index tail × SavesNothing
         (files_at F.Files files.old) (files_at F.Files files.new))
-        ⊎ SavesExtension result both.index both.tail out.now
+        ⊎ SavesExtension (ended save_outcome result) index tail out.now
         (files_at F.Files files.old) (files_at F.Files files.new) }
-    ensures as_built { IsAsBuilt both.index (rows_of_tail both.tail) }
-    ensures cost { steps.new ≤ steps.old + extension_cost both.index (rows_of_tail both.tail) }
-    ensures words { (place : ℕ) → result ≢ Outcome.Words place }
-    ensures unheard { result ≢ Outcome.ListenFailed }
-    ensures unsaid { result ≢ Outcome.SayFailed }
-    ensures loaded { result ≢ Outcome.LoadFailed }
-    ensures save_faults { SaveCounts F.Files files.old files.new (result ≡ Outcome.SaveFailed) }
-    ensures loads { F.loads files.new ≡ F.loads files.old }
-    ensures taken { F.taken files.new ≡ F.taken files.old }
-    ensures load_faults { F.load_faults files.new ≡ F.load_faults files.old }
-    ensures begins { F.begins files.new ≡ F.begins files.old }
+    ensures as_built { IsAsBuilt index (rows_of_tail tail) }
+    ensures cost { steps.new ≤ steps.old + extension_cost index (rows_of_tail tail) }
+    ensures only { SavesOnly (ended save_outcome result) (files_at F.Files files.old) (files_at F.Files files.new) }
     ensures given { F.given files.new ≡ F.given files.old }
 {
-    match index_of_extension(alloc, both, steps) {
-        Ok(bytes) => save_as(files, out, &bytes),
-        Err(fault) => outcome_of(fault),
-    }
+    let bytes = index_of_extension(alloc, index, tail, steps)?;
+    save_as(files, out, &bytes)
 }
 
 // The bytes of the index file of what an index holds and its tail. The index is let go once there is a chart.
 fn index_of_extension<L: Ledger>(
     alloc: Global,
-    both: IndexAndTail,
+    index: Index,
+    tail: Option<Chart>,
     steps: &mut Steps<L>,
-) -> Result<Vec<u8>, GridFault>
-    ensures ok { IfOk result (λ bytes. bytes.items ≡ extension_bytes both.index both.tail) }
-    ensures exact { OnOk result (extension_fault both.index (rows_of_tail both.tail) ≡ None) }
-    ensures fault { IfErr result (IsGridFaultFor (extension_fault both.index (rows_of_tail both.tail))) }
-    ensures as_built { IsAsBuilt both.index (rows_of_tail both.tail) }
-    ensures cost { steps.new ≤ steps.old + extension_cost both.index (rows_of_tail both.tail) }
+) -> Result<Vec<u8>, ChartFault>
+    ensures ok { IfOk result (λ bytes. bytes.items ≡ extension_bytes index tail) }
+    ensures exact { OnOk result (extension_fault index (rows_of_tail tail) ≡ None) }
+    ensures fault { IfErr result (λ fault. NotExtended (chart_outcome fault) index tail) }
+    ensures as_built { IsAsBuilt index (rows_of_tail tail) }
+    ensures cost { steps.new ≤ steps.old + extension_cost index (rows_of_tail tail) }
 {
-    let IndexAndTail { index, tail } = both;
     let chart = extended(alloc, &index, tail, steps)?;
     drop(index);
-    match index_bytes(alloc, chart) {
-        Ok(bytes) => Ok(bytes),
-        Err(_) => Err(GridFault::Memory),
-    }
-}
-
-// The outcome of an index and later rows that have no chart.
-fn outcome_of(fault: GridFault) -> Outcome
-    ensures value { result ≡ extension_outcome fault }
-    ensures words { (place : ℕ) → result ≢ Outcome.Words place }
-    ensures loaded { result ≢ Outcome.LoadFailed }
-    ensures saved { result ≢ Outcome.SaveFailed }
-    ensures heard { result ≢ Outcome.ListenFailed }
-    ensures said { result ≢ Outcome.SayFailed }
-{
-    match fault {
-        GridFault::Empty => Outcome::Empty,
-        GridFault::Limit { kind, value } => Outcome::Limit { kind, value },
-        GridFault::Memory => Outcome::Memory,
-    }
+    Ok(index_bytes(alloc, chart)?)
 }

@@ -1,47 +1,54 @@
-ghost use Rattle.std.specs.Prelude.{◌≡◌, ◌≢◌, ℕ, IfOk, IfErr, Err};
+ghost use Rattle.std.specs.Prelude.{◌≡◌, IfOk, IfErr};
 ghost use Rattle.host_ports.specs.Meanings.{files_at};
 ghost use Rattle.gract_top.specs.Beginning.{OpensFile, StopsAtIndex, progress};
+ghost use Rattle.gract_top.specs.Counting.{CountsFiles};
+ghost use Rattle.gract_top.specs.Faults.{index_outcome};
+ghost use Rattle.gract_top.specs.Stopping.{LoadsIndex, StopsLoading};
 
+use crate::fault::IndexFault;
 use crate::loading::load;
-use crate::outcome::Outcome;
 use host_ports::Files;
-use index_format::FormatFault;
 use std::alloc::Global;
 use std::sync::ledger::Ledger;
 use step_count::Steps;
 use track_index::{Index, open_bytes};
 use track_types::LimitKind;
 
-// The index of the index file of that name, or the outcome that the file decides. It begins that file and no other. The
-// file's bytes are let go once they are read.
+// The index of the index file of that name. It begins that file and no other. The file's bytes are let go once they are
+// read.
 pub(crate) fn open_file<F: Files, L: Ledger>(
     alloc: Global,
     name: &str,
     files: &mut F,
     steps: &mut Steps<L>,
-) -> Result<Index, Outcome>
+) -> Result<Index, IndexFault>
     ensures ok { IfOk result (λ index. OpensFile name.now index
         (progress (files_at F.Files files.old) steps.old)
         (progress (files_at F.Files files.new) steps.new)) }
-    ensures err { IfErr result (λ outcome. StopsAtIndex outcome name.now
+    ensures err { IfErr result (λ fault. StopsAtIndex (index_outcome fault) name.now
         (progress (files_at F.Files files.old) steps.old)
         (progress (files_at F.Files files.new) steps.new)) }
-    ensures words { IfErr result (λ outcome. (place : ℕ) → outcome ≢ Outcome.Words place) }
-    ensures unheard { IfErr result (λ outcome. outcome ≢ Outcome.ListenFailed) }
-    ensures unsaid { IfErr result (λ outcome. outcome ≢ Outcome.SayFailed) }
-    ensures unsaved { IfErr result (λ outcome. outcome ≢ Outcome.SaveFailed) }
-    ensures untouched { result ≢ Err Outcome.LoadFailed →
-        F.load_faults files.new ≡ F.load_faults files.old }
-    ensures save_faults { F.save_faults files.new ≡ F.save_faults files.old }
+    ensures counts { IfErr result (λ fault. CountsFiles (index_outcome fault)
+        (files_at F.Files files.old) (files_at F.Files files.new)) }
+    ensures given { F.given files.new ≡ F.given files.old }
+{
+    let bytes = load_index(alloc, name, files)?;
+    Ok(open_bytes(alloc, bytes, steps)?)
+}
+
+// The bytes of the index file of that name.
+pub(crate) fn load_index<F: Files>(
+    alloc: Global,
+    name: &str,
+    files: &mut F,
+) -> Result<Vec<u8>, IndexFault>
+    ensures ok { IfOk result (λ bytes. LoadsIndex name.now bytes.items
+        (files_at F.Files files.old) (files_at F.Files files.new)) }
+    ensures err { IfErr result (λ fault. StopsLoading (index_outcome fault) name.now
+        (files_at F.Files files.old) (files_at F.Files files.new)) }
     ensures given { F.given files.new ≡ F.given files.old }
 {
     let mut bytes = Vec::new(alloc);
-    if let Err(outcome) = load(files, name, LimitKind::Index, &mut bytes) {
-        return Err(outcome);
-    }
-    match open_bytes(alloc, bytes, steps) {
-        Ok(index) => Ok(index),
-        Err(FormatFault::Flaw(flaw)) => Err(Outcome::Flaw(flaw)),
-        Err(FormatFault::Memory) => Err(Outcome::Memory),
-    }
+    load(files, name, LimitKind::Index, &mut bytes)?;
+    Ok(bytes)
 }

@@ -15,6 +15,8 @@ mod command_words;
 mod commands;
 mod counting;
 mod extending;
+mod fault;
+mod fault_outcomes;
 mod index_opening;
 mod loading;
 mod merging;

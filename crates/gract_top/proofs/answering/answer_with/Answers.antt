@@ -1,43 +1,14 @@
-use Rattle.std.proofs.Common.{◌≡◌, ◌∙◌, ap, refl, Err}
-use Rattle.question_shell.specs.declared.shell_fault.ShellFault.TheVariants as fault
+use Rattle.gract_top.proofs.OutcomeLemmas.{AnswersSource-run, CountsTalk-run}
 use Rattle.gract_top.proofs.answering.answer_with.Goals as goal
 
-pub returns-in-Err-Say-clause-answers : goal.returns-in-Err-Say-clause-answers
-returns-in-Err-Say-clause-answers g c =
-    let failed : c.run.result ≡ Err fault.Say = c.in-Err-Say.is ∙ ap Err c.in-Err-Say.field-0-is in
-    record {
-      desk = c.run.new.desk;
-      answered = rw c.in-Ok.ensures at c.run.ensures.say failed;
-    }
+pub returns-clause-answers : goal.returns-clause-answers
+returns-clause-answers g c =
+    let call = c.run.ensures in
+    AnswersSource-run c.run.result _ _ _ _ c.run.new.desk (rw c.in-Ok.ensures at call.ok) (rw c.in-Ok.ensures at call.listen)
+    (rw c.in-Ok.ensures at call.say) (rw c.in-Ok.ensures at call.limit) (rw c.in-Ok.ensures at call.memory)
 
-pub returns-in-Err-Say-clause-say_faults : goal.returns-in-Err-Say-clause-say_faults
-returns-in-Err-Say-clause-say_faults g c = record {
-  cause = λ same. c.run.ensures.say_cause (c.in-Err-Say.is ∙ ap Err c.in-Err-Say.field-0-is);
-  untouched = λ other. absurd (other refl);
-  faults = c.run.ensures.say_faults;
-}
-
-pub returns-in-Err-Say-clause-listen_faults : goal.returns-in-Err-Say-clause-listen_faults
-returns-in-Err-Say-clause-listen_faults g c =
-    let failed : c.run.result ≡ Err fault.Say = c.in-Err-Say.is ∙ ap Err c.in-Err-Say.field-0-is in
-    record {
-      cause = λ same. absurd (cc);
-      untouched = λ other. c.run.ensures.listen_untouched (λ same. absurd (cc));
-      faults = c.run.ensures.listen_faults;
-    }
-
-pub returns-in-Err-Listen-clause-listen_faults : goal.returns-in-Err-Listen-clause-listen_faults
-returns-in-Err-Listen-clause-listen_faults g c = record {
-  cause = λ same. c.run.ensures.listen_cause (c.in-Err-Listen.is ∙ ap Err c.in-Err-Listen.field-0-is);
-  untouched = λ other. absurd (other refl);
-  faults = c.run.ensures.listen_faults;
-}
-
-pub returns-in-Err-Listen-clause-say_faults : goal.returns-in-Err-Listen-clause-say_faults
-returns-in-Err-Listen-clause-say_faults g c =
-    let failed : c.run.result ≡ Err fault.Listen = c.in-Err-Listen.is ∙ ap Err c.in-Err-Listen.field-0-is in
-    record {
-      cause = λ same. absurd (cc);
-      untouched = λ other. c.run.ensures.say_untouched (λ same. absurd (cc));
-      faults = c.run.ensures.say_faults;
-    }
+pub returns-clause-counts : goal.returns-clause-counts
+returns-clause-counts g c =
+    let call = c.run.ensures in
+    CountsTalk-run g.S.Source g.K.Sink c.run.result _ _ _ _ call.listen_cause call.listen_untouched call.say_cause
+    call.say_untouched call.within

@@ -1,12 +1,27 @@
+use Rattle.std.proofs.Common.{inr}
+use Rattle.std.proofs.lemmas.Result.{err_from_is_err_and}
 use Rattle.gract_top.proofs.ExtendingLemmas.{EndsExtend-opened, EndsExtend-stopped}
+use Rattle.gract_top.proofs.TailOpeningLemmas.{GridsTail-loaded, OpensTailed-loaded, StopsAtTail-stopped}
 use Rattle.gract_top.proofs.extending.extend.Goals as goal
 
-pub returns-in-Ok-clause-ends : goal.returns-in-Ok-clause-ends
-returns-in-Ok-clause-ends g c =
-    EndsExtend-opened c.save_extension.result c.args.index.now c.args.tail.now c.args.out.now _ _ c.in-Ok.both.index
-    c.in-Ok.both.tail _ c.in-Ok.ensures.ok c.save_extension.ensures.ended c.save_extension.ensures.as_built
-    c.save_extension.ensures.cost c.save_extension.ensures.loads c.save_extension.ensures.begins c.save_extension.ensures.taken
+pub returns-in_err-tail-clause-ends : goal.returns-in_err-tail-clause-ends
+returns-in_err-tail-clause-ends g c =
+    let gave = err_from_is_err_and c.from_residual-in_err-tail.result c.from_residual-in_err-tail.ensures.1 in
+    rw (gave.1, gave.2) (EndsExtend-stopped _ c.args.index.now c.args.tail.now c.args.out.now _ _
+    (inr (
+      c.in_ok-index.index,
+      _,
+      c.in_ok-index.ensures.ok,
+      StopsAtTail-stopped _ c.in_ok-index.index c.args.tail.now c.settings_of.result _ _ _ c.settings_of.ensures.value
+          c.in_err-tail.ensures.err,
+    )))
 
-pub returns-in-Err-clause-ends : goal.returns-in-Err-clause-ends
-returns-in-Err-clause-ends g c =
-    EndsExtend-stopped c.in-Err.outcome c.args.index.now c.args.tail.now c.args.out.now _ _ c.in-Err.ensures.err
+pub returns-clause-ends : goal.returns-clause-ends
+returns-clause-ends g c =
+    let only = c.save_extension.ensures.only in
+    EndsExtend-opened _ c.args.index.now c.args.tail.now c.args.out.now _ _ c.in_ok-index.index c.in_ok-tail.tail _
+    (OpensTailed-loaded c.args.index.now c.args.tail.now c.in_ok-index.index c.in_ok-tail.tail _ _ _ c.in_ok-index.ensures.ok
+    (GridsTail-loaded c.in_ok-index.index c.args.tail.now c.in_ok-tail.tail c.settings_of.result _ _ _
+    c.settings_of.ensures.value c.in_ok-tail.ensures.ok))
+    c.save_extension.ensures.ended c.save_extension.ensures.as_built
+    c.save_extension.ensures.cost only.loads only.begins only.taken

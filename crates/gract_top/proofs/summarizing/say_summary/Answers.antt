@@ -1,5 +1,5 @@
-use Rattle.std.proofs.Common.{◌∙◌, ◌≡◌, ◌+◌, ◌≤◌, [], ℕ, List, OnErr, OnOk, Ok, Some, Err, ap, arith, subst, refl, None}
-use Rattle.std.proofs.lemmas.Result.{err_from_is_err_and, on_err_weaker, on_ok_weaker}
+use Rattle.std.proofs.Common.{◌≡◌, [], List, OnErr, OnOk, Ok, Some, Err, ap, arith, subst, refl, None}
+use Rattle.std.proofs.lemmas.Result.{on_err_weaker, on_ok_weaker}
 use Rattle.host_ports.specs.Histories.{Gains}
 use Rattle.std.specs.List.{sum_by}
 use Rattle.track_types.specs.declared.question.Question.{Question}
@@ -10,7 +10,7 @@ use Rattle.question_shell.specs.Session.{Meaning, meaning_by}
 use Rattle.question_shell.specs.Turns.{AnswerTold, moment}
 use Rattle.question_shell.proofs.SaysLemmas.{Gains-append, Gains-says, on_err_always}
 use Rattle.gract_top.specs.Sampling.{SaysFront}
-use Rattle.gract_top.specs.Summary.{counted_questions, counts_of, found_by, summary_of}
+use Rattle.gract_top.specs.Summary.{counted_questions, counts_of, found_by}
 use Rattle.gract_top.proofs.SummaryLemmas.{SaysFront-after, SaysFront-more, info-front}
 use Rattle.gract_top.proofs.summarizing.say_summary.Given.{Over}
 use Rattle.gract_top.proofs.summarizing.say_summary.Goals as goal

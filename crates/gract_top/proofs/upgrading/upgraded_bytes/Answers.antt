@@ -5,6 +5,5 @@ use Rattle.gract_top.proofs.upgrading.upgraded_bytes.Goals as goal
 
 pub returns-clause-ok : goal.returns-clause-ok
 returns-clause-ok g c =
-    let held = c.in-Ok.ensures.ok in
-    IsUpgrade-file c.args.bytes.items c.in-Ok-encode.newest.items held.0 held.1
-    (c.in-Ok-encode.ensures.ok ∙ ap file_bytes held.2)
+    let held = c.in_ok-parts.ensures.ok in
+    IsUpgrade-file c.args.bytes.items _ held.0 held.1 (c.in_ok-encode.ensures.ok ∙ ap file_bytes held.2)
