@@ -180,6 +180,14 @@ class Terminal:
     def type(self, text):
         os.write(self.fd, text.encode())
 
+    def press(self, key, text):
+        """Types that key until the terminal shows that text: Python's prompt loses an interrupt that comes while it begins to wait."""
+        for _ in range(20):
+            self.type(key)
+            with contextlib.suppress(AssertionError):
+                return self.until(text, seconds=1)
+        raise AssertionError(f"{text!r} does not come: {self.shown!r}")
+
 
 @unittest.skipUnless(importlib.util.find_spec("readline"), "this Python has no readline, the prompt was not tried")
 class Prompt(unittest.TestCase):
@@ -202,8 +210,9 @@ class Prompt(unittest.TestCase):
                 terminal.type("slice at=noon\n")
                 terminal.until("gract: at: not a time: noon")
                 terminal.until("gract> ")
-                terminal.type("posi\x03")
-                terminal.until("(interrupted)")
+                terminal.type("posi")
+                terminal.until("posi")
+                terminal.press("\x03", "(interrupted)")
                 terminal.until("gract> ")
                 terminal.type("slice at='2005-08-29 06:00\n")
                 terminal.until("no closing quotation")
