@@ -33,7 +33,8 @@ use Rattle.log_cursor.specs.Seek.{is_stop_at}
 use Rattle.rule_store.specs.View.{RulesView}
 use Rattle.snapshots.specs.Parts.{rules_in, snapshot_in, stops_of}
 use Rattle.snapshots.specs.Sound.{IsBlock, IsSnapshot}
-use Rattle.snapshots.specs.Speed.{gap, reach_of, width_at, IsReached}
+use Rattle.log_bounds.specs.Bounds.{gap}
+use Rattle.snapshots.specs.Speed.{reach_of, width_at, IsReached}
 use Rattle.snapshots.specs.TrackWalk.{block_kept}
 use Rattle.snapshots.specs.Tracks.{blocks_by_leaf, cell_box, track_box, IsOnTrack}
 use Rattle.snapshots.specs.View.{SnapshotView}

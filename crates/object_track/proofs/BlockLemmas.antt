@@ -22,7 +22,7 @@ use Rattle.rule_store.specs.Entry.{entry_of}
 use Rattle.rule_store.specs.Expansion.{values_of}
 use Rattle.rule_store.specs.Boxes.{bounding_box_of}
 use Rattle.log_cursor.specs.Start.{start_at, AreHullsAsked, IsHullAsked, IsPlaced}
-use Rattle.snapshots.specs.JoinFlaws.{cell_after, cell_before}
+use Rattle.log_bounds.specs.Bounds.{cell_after, cell_before}
 use Rattle.snapshots.specs.Parts.{anchored_at, log_in, no_period, period_at, rules_in, snapshot_in}
 use Rattle.snapshots.specs.Sound.{IsBlock}
 use Rattle.snapshots.specs.SoundParts.{IsInGridAt, IsSoundLog, IsValid}

@@ -23,7 +23,7 @@ use Rattle.rule_store.specs.Log.{block_stops, log_values, stop_at, stops_after, 
 use Rattle.rule_store.proofs.CellLemmas.{length-cells_along}
 use Rattle.rule_store.proofs.ExpansionLemmas.{length-values_of}
 use Rattle.log_cursor.proofs.WayLemmas.{log-near}
-use Rattle.snapshots.specs.JoinFlaws.{duration_of_log}
+use Rattle.log_bounds.specs.Bounds.{duration_of_log}
 use Rattle.snapshots.specs.Parts.{anchored_at, end_in, first_in, log_in, row_of, rules_in, snapshot_in, stops_in, stops_in_block, stops_of}
 use Rattle.snapshots.specs.Sound.{IsBlock}
 use Rattle.snapshots.specs.SoundParts.{IsValid}

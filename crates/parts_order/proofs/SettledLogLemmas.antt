@@ -17,7 +17,7 @@ use Rattle.rule_order.specs.Order.{new_symbol}
 use Rattle.rule_order.specs.View.{settled_view}
 use Rattle.rule_order.proofs.KeptLemmas.{expansion_of-settled, values_of-settled}
 use Rattle.snapshots.specs.Parts.{block_log}
-use Rattle.snapshots.specs.JoinFlaws.{cell_after, cell_before, duration_of_log}
+use Rattle.log_bounds.specs.Bounds.{cell_after, cell_before, duration_of_log}
 use Rattle.snapshots.specs.SoundParts.{IsSoundLog}
 use Rattle.snapshots.specs.declared.anchored.Anchored.{Anchored}
 

@@ -52,7 +52,7 @@ place_back view place is within =
     ∙ inverse_of-at view.parts.perm place (slice_index view.parts.perm place) is.sound.permutes within refl
 
 -- so the block at a place is the block of the object there
-block_back : (view : SnapshotView) (place : ℕ) → IsSnapshot view → place < length view.parts.perm
+pub block_back : (view : SnapshotView) (place : ℕ) → IsSnapshot view → place < length view.parts.perm
     → block_at view place ≡ present_block view (index_at view place)
 block_back view place is within =
     let index : ℕ = index_at view place in

@@ -1,45 +1,130 @@
--- The blocks of a period, put where their objects stand.
-use Rattle.std.proofs.Common.{◌≡◌, ◌≢◌, ◌⊎◌, ℕ, ◌+◌, ◌*◌, ◌<◌, ◌≤◌, true, eqb, List, [], ◌∷◌, length, get_or, set, map, All, Option, None, Some, inl, inr, refl, ap, sym, ◌∙◌, arith, subst}
-use Rattle.std.specs.Prelude.{if◌then◌else◌, replicate}
-use Rattle.std.specs.List.{range_with_len, sum_by}
-use Rattle.std.proofs.lemmas.Bool.{cases_Bool}
-use Rattle.std.proofs.lemmas.Bool.Decides.{nat_tests}
-use Rattle.std.proofs.lemmas.List.{same_lists, get_or-set_same, get_or-set_other, get_or-replicate, get_or_default, length-set, length-replicate}
+-- The blocks of a period by object, and where each of them stands in leaf order.
+use Rattle.std.proofs.Common.{◌≡◌, ◌≢◌, ℕ, zero, suc, ◌+◌, ◌*◌, ◌<◌, ◌≤◌, Bool, true, false, List, [], ◌∷◌, ◌++◌, length, get_or, set, map, Option, None, Some, inl, inr, refl, ap, sym, ◌∙◌, arith, subst}
+use Rattle.std.specs.Prelude.{slice_get, slice_index, slice_index_or}
+use Rattle.std.specs.List.{cons_option, filter_map, range_with_len, sum_by}
+use Rattle.std.proofs.lemmas.Bool.{cases_Bool, cases_lt}
+use Rattle.std.proofs.lemmas.List.{append-nil, same_lists, get_or-map, get_or-set_same, get_or-set_other, length-map, length-set, map-append}
 use Rattle.std.proofs.lemmas.List.Sums.{sum_by-cons}
-use Rattle.std.proofs.lemmas.List.Elements.{All-tail}
-use Rattle.std.proofs.lemmas.Option.{slice_get_within}
 use Rattle.std.proofs.lemmas.List.FromFn.{get_or-map-range_with_len, length-map-range_with_len}
-use Rattle.list_laws.proofs.SumLemmas.{sum_by-range_some}
+use Rattle.std.proofs.lemmas.Option.{slice_get-get_or}
 use Rattle.list_laws.proofs.FilterLemmas.{filter-all}
-use Rattle.list_laws.proofs.OptionLemmas.{made_cases}
-use Rattle.list_laws.proofs.SumLemmas.{made_weight, sum_by-filter_map}
+use Rattle.list_laws.proofs.RangeLemmas.{filter_map-range_more}
+use Rattle.bit_rank.specs.Bits.{rank_of, select_of}
 use Rattle.bit_rank.specs.Cost.{window_reads}
+use Rattle.bit_rank.proofs.RankLemmas.{rank_of-all}
+use Rattle.object_perm.specs.Permutation.{inverse_of, PermutesPlaces}
+use Rattle.object_perm.proofs.InverseLemmas.{at-inverse_of}
+use Rattle.object_perm.proofs.OntoLemmas.{inverse_of-within}
 use Rattle.k2_tree.specs.Pruning.{on_areas, square_count}
 use Rattle.k2_tree.specs.TreeSquares.{squares_of}
 use Rattle.snapshots.specs.IndexCost.{blocks_reads, everywhere}
 use Rattle.snapshots.specs.Cost.{block_reads}
+use Rattle.snapshots.specs.Found.{ArePut}
 use Rattle.snapshots.specs.Objects.{WeighSame}
-use Rattle.snapshots.specs.Sound.{IsBlock, IsSnapshot}
+use Rattle.snapshots.specs.Ones.{first_ones}
+use Rattle.snapshots.specs.Sound.{IsSnapshot}
 use Rattle.snapshots.specs.Tracks.{blocks_by_leaf}
-use Rattle.snapshots.specs.View.{SnapshotView, all_blocks, block_at, block_of, tree_in}
+use Rattle.snapshots.specs.View.{SnapshotView, all_blocks, block_at, block_of, present_block, tree_in}
 use Rattle.snapshots.specs.declared.anchored.Anchored.{Anchored}
 use Rattle.snapshots.proofs.BlockFactsLemmas.{present_block-is}
+use Rattle.snapshots.proofs.BlocksLemmas.{block_back}
 use Rattle.snapshots.proofs.LeafOrderLemmas.{by_leaf-weighs}
+use Rattle.snapshots.proofs.OnesLemmas.{first_ones-at, first_ones-begin, first_ones-here, first_ones-none}
 
--- a block counts if it is an object's
-abbrev pub counts : ℕ → Anchored → ℕ
-counts index block = if eqb block.index index then 1 else 0
+-- what is made of the places of ones alone
+module _ {X : Type 0} (make : ℕ → Option X) (f : ℕ → X) (bits : List Bool)
+    (ones : (i : ℕ) → slice_index_or bits i false ≡ true → make i ≡ Some (f i))
+    (zeros : (i : ℕ) → slice_index_or bits i false ≡ false → make i ≡ None) where
+  made_of_ones : (n : ℕ) → n ≤ length bits → filter_map make (range_with_len 0 n) ≡ map f (first_ones bits (rank_of bits n))
+  made_of_ones zero short = ap (map f) (sym (first_ones-begin bits))
+  made_of_ones (suc n) short =
+      let next : suc n ≡ n + 1 = omega arith in
+      let inside : n < length bits = omega arith in
+      let so_far : List ℕ = first_ones bits (rank_of bits n) in
+      let step : filter_map make (range_with_len 0 (suc n)) ≡ map f so_far ++ cons_option (make n) [] =
+      ap (λ k. filter_map make (range_with_len 0 k)) next ∙ filter_map-range_more make n
+      ∙ ap (λ xs. xs ++ cons_option (make n) []) (made_of_ones n (omega arith)) in
+      let back : map f (first_ones bits (rank_of bits (n + 1))) ≡ map f (first_ones bits (rank_of bits (suc n))) =
+      ap (λ k. map f (first_ones bits (rank_of bits k))) (sym next) in
+      elim (cases_Bool (slice_index_or bits n false)) [
+        | inl on ↦
+            step ∙ ap (λ y. map f so_far ++ cons_option y []) (ones n on) ∙ sym (map-append f so_far (n ∷ []))
+            ∙ ap (map f) (sym (first_ones-here bits n inside (slice_get-get_or bits n false inside ∙ ap Some on))) ∙ back
+        | inr off ↦
+            step ∙ ap (λ y. map f so_far ++ cons_option y []) (zeros n off) ∙ append-nil (map f so_far)
+            ∙ ap (map f) (sym (first_ones-none bits n inside (slice_get-get_or bits n false inside ∙ ap Some off))) ∙ back
+      ]
 
--- the block at an object's place is the object's, or it is still to come
-abbrev pub IsSettled : SnapshotView → List Anchored → List (Option Anchored) → ℕ → Type 0
-IsSettled view left table index = (get_or table index None ≡ block_of view index)
-    ⊎ ((get_or table index None ≡ None) × (0 < sum_by (counts index) left))
+module _ (view : SnapshotView) (is : IsSnapshot view) where
+  -- the blocks by object are those of the present ones
+  all_blocks-present : all_blocks view ≡ map (present_block view) (first_ones view.parts.present (length view.parts.perm))
+  unfolding all_blocks
+  all_blocks-present =
+      made_of_ones (block_of view) (present_block view) view.parts.present (λ i on. rw on refl) (λ i off. rw off refl)
+      view.objects (omega (arith, is.shaped.presence))
+      ∙ ap (λ n. map (present_block view) (first_ones view.parts.present n))
+      (rank_of-all view.parts.present view.objects (omega (arith, is.shaped.presence)) ∙ sym is.shaped.perm)
 
--- what is known of a table to which the blocks that are left are still to be put
-pub record IsScattering (view : SnapshotView) (left : List Anchored) (table : List (Option Anchored)) : Type 0 where
-  pub long : length table ≡ view.objects
-  pub settled : (index : ℕ) → index < view.objects → IsSettled view left table index
-  pub blocks : All (IsBlock view) left
+  pub length-all_blocks : length (all_blocks view) ≡ length view.parts.perm
+  length-all_blocks =
+      ap length all_blocks-present
+      ∙ length-map (first_ones view.parts.present (length view.parts.perm)) (present_block view)
+      ∙ length-map-range_with_len (λ rank. select_of view.parts.present (rank + 1)) 0 (length view.parts.perm)
+
+  -- the block at a place by object
+  pub all_blocks-at : (rank : ℕ) (d : Anchored) → rank < length view.parts.perm
+      → get_or (all_blocks view) rank d ≡ present_block view (select_of view.parts.present (rank + 1))
+  all_blocks-at rank d within =
+      let count : ℕ = length view.parts.perm in
+      let long = length-map-range_with_len (λ r. select_of view.parts.present (r + 1)) 0 count in
+      ap (λ (xs : List Anchored). get_or xs rank d) all_blocks-present
+      ∙ get_or-map (present_block view) (first_ones view.parts.present count) rank 0 d (omega (arith, long))
+      ∙ ap (present_block view) (first_ones-at view.parts.present count rank 0 within)
+
+  -- it is the one at its place in leaf order
+  pub all_blocks-placed : (place : ℕ) (d : Anchored) → place < length view.parts.perm
+      → get_or (all_blocks view) (slice_index view.parts.perm place) d ≡ block_at view place
+  all_blocks-placed place d within =
+      all_blocks-at (slice_index view.parts.perm place) d (is.sound.permutes.within place within)
+      ∙ sym (block_back view place is within)
+
+  -- once all blocks are put to their places by object, the table has them by object
+  pub put-all : (table : List Anchored) → ArePut view.parts.perm (blocks_by_leaf view) (length view.parts.perm) table
+      → table ≡ all_blocks view
+  put-all table are =
+      same_lists table (all_blocks view) (are.long ∙ sym length-all_blocks) (λ rank d within.
+      let perm : List ℕ = view.parts.perm in
+      let place : ℕ = inverse_of perm rank in
+      let inside : place < length perm = inverse_of-within perm rank is.sound.permutes (omega (arith, are.long)) in
+      let stands : slice_index perm place ≡ rank = at-inverse_of perm rank inside in
+      ap (λ r. get_or table r d) (sym stands) ∙ are.put place d inside
+      ∙ get_or-map-range_with_len (block_at view) 0 (length perm) place place d inside (omega arith)
+      ∙ sym (all_blocks-placed place d inside) ∙ ap (λ r. get_or (all_blocks view) r d) stands)
+
+-- blocks that are put to places which are all different
+module _ (places : List ℕ) (blocks : List Anchored) where
+  pub put-none : (table : List Anchored) → length table ≡ length places → ArePut places blocks 0 table
+  put-none table same = record { long = same; put = λ k d below. absurd (omega arith) }
+
+  pub put-more : (table : List Anchored) (count : ℕ) (block : Anchored) → ArePut places blocks count table
+      → PermutesPlaces places → count < length places → ((d : Anchored) → block ≡ get_or blocks count d)
+      → ArePut places blocks (count + 1) (set table (slice_index places count) block)
+  put-more table count block are permutes within its =
+      let there : ℕ = slice_index places count in
+      let inside : there < length table = omega (arith, are.long, permutes.within count within) in
+      record {
+        long = length-set table there block ∙ are.long;
+        put = λ k d below. elim (cases_lt k count) [
+          | inl earlier ↦
+              let apart : slice_index places k ≢ there =
+              λ same. (let one = permutes.apart k count (omega arith) within same in absurd (omega (arith, one))) in
+              get_or-set_other table there (slice_index places k) block d apart ∙ are.put k d earlier
+          | inr last ↦
+              let same : count ≡ k = omega arith in
+              subst (λ n. get_or (set table there block) (slice_index places n) d ≡ get_or blocks n d) same
+              (get_or-set_same table there block d inside ∙ its d)
+        ];
+      }
 
 -- there are as many of them
 pub length-weighed : (xs ys : List Anchored) → WeighSame xs ys → length xs ≡ length ys
@@ -50,89 +135,11 @@ length-weighed xs ys same = sym (ones xs) ∙ same (λ _. 1) ∙ ones ys
     ones [] = refl
     ones (z ∷ zs) = omega (arith, ones zs, sum_by-cons (λ _. 1) z zs)
 
--- a block of the period counts once at least
-present-counts : (view : SnapshotView) (index : ℕ) (block : Anchored) → index < view.objects
-    → block_of view index ≡ Some block → block.index ≡ index → 0 < sum_by (counts index) (all_blocks view)
-unfolding all_blocks
-present-counts view index block within has its =
-    let made : ℕ → ℕ = λ i. made_weight (counts index) (block_of view i) in
-    let here : made index ≡ 1 =
-    ap (made_weight (counts index)) has ∙ ap (λ i. if eqb i index then 1 else 0) its
-    ∙ (let yes : eqb index index ≡ true = grind (arith, nat_tests) in rw yes refl) in
-    let some = sum_by-range_some made 0 view.objects index (omega arith) (omega arith) in
-    let all = sum_by-filter_map (counts index) (block_of view) (range_with_len 0 view.objects) in
-    omega (arith, here, some, all)
-
 -- the block of an object is its own
 pub index-from_block_of : (view : SnapshotView) (index : ℕ) (block : Anchored) → block_of view index ≡ Some block
     → block.index ≡ index
 index-from_block_of view index block has =
     sym (ap (λ (b : Anchored). b.index) (present_block-is view index block has).1)
-
--- before the first block: the table has none
-pub scattering-none : (view : SnapshotView) (left : List Anchored) → WeighSame left (all_blocks view)
-    → All (IsBlock view) left → IsScattering view left (replicate view.objects None)
-unfolding WeighSame
-scattering-none view left same all = record {
-  long = length-replicate view.objects None;
-  settled = λ index within.
-      let empty = get_or-replicate view.objects index None None within in
-      elim (made_cases (block_of view index)) [
-        | inl none ↦ inl (empty ∙ sym none)
-        | inr some ↦
-            let its = index-from_block_of view index some.0 some.1 in
-            let counted = present-counts view index some.0 within some.1 its in
-            inr (empty, omega (arith, counted, same (counts index)))
-      ];
-  blocks = all;
-}
-
--- a block is put to its object's place
-pub scattering-more : (view : SnapshotView) (block : Anchored) (left : List Anchored) (table : List (Option Anchored))
-    → IsScattering view (block ∷ left) table → block.index < length table
-    → IsScattering view left (set table block.index (Some block))
-scattering-more view block left table is within = record {
-  long = length-set table block.index (Some block) ∙ is.long;
-  settled = λ index inside. elim (cases_Bool (eqb block.index index)) [
-    | inl here ↦
-        let same : block.index ≡ index = grind (arith, nat_tests) in
-        let its = is.blocks 0 block (omega arith) in
-        inl (subst (λ i. get_or (set table block.index (Some block)) i None ≡ block_of view i) same
-        (get_or-set_same table block.index (Some block) None within ∙ sym its.its))
-    | inr other ↦
-        let apart : index ≢ block.index = λ same. (let yes : eqb block.index index ≡ true = grind (arith, nat_tests) in cc) in
-        let kept = get_or-set_other table block.index index (Some block) None apart in
-        let light : counts index block ≡ 0 = rw other refl in
-        elim (is.settled index inside) [
-          | inl settled ↦ inl (kept ∙ settled)
-          | inr waits ↦ inr (kept ∙ waits.0, omega (arith, waits.1, light, sum_by-cons (counts index) block left))
-        ]
-  ];
-  blocks = All-tail (IsBlock view) block left is.blocks;
-}
-
--- the place of a block is in the table
-pub index-within : (view : SnapshotView) (block : Anchored) (left : List Anchored) (table : List (Option Anchored))
-    → IsSnapshot view → IsScattering view (block ∷ left) table → block.index < length table
-index-within view block left table is scattering =
-    let its = scattering.blocks 0 block (omega arith) in
-    let within = slice_get_within view.parts.present block.index true its.present in
-    omega (arith, within, is.shaped.presence, scattering.long)
-
--- after the last block the table has the block of each object
-pub scattered : (view : SnapshotView) (table : List (Option Anchored)) → IsScattering view [] table
-    → table ≡ map (block_of view) (range_with_len 0 view.objects)
-scattered view table is =
-    same_lists table (map (block_of view) (range_with_len 0 view.objects))
-    (is.long ∙ sym (length-map-range_with_len (block_of view) 0 view.objects))
-    (λ index d within.
-    let inside : index < view.objects = omega (arith, is.long) in
-    elim (is.settled index inside) [
-      | inl settled ↦
-          get_or_default table index d None within ∙ settled
-          ∙ sym (get_or-map-range_with_len (block_of view) 0 view.objects index index d inside (omega arith))
-      | inr waits ↦ absurd (omega (arith, waits.1))
-    ])
 
 -- the reads of a list of all cells, and of all blocks
 pub blocks_reads-listed : (view : SnapshotView) (steps before : ℕ) → IsSnapshot view
@@ -142,7 +149,4 @@ unfolding blocks_reads
 blocks_reads-listed view steps before is reads =
     let all : square_count everywhere (tree_in view) ≡ length (squares_of (tree_in view)) =
     ap length (filter-all (on_areas everywhere (tree_in view)) (squares_of (tree_in view)) (λ _ _ _. refl)) in
-    let long : length (blocks_by_leaf view) ≡ length view.parts.perm =
-    length-map-range_with_len (block_at view) 0 (length view.parts.perm) in
-    let same = length-weighed (blocks_by_leaf view) (all_blocks view) (by_leaf-weighs view is) in
-    omega (arith, reads, all, long, same)
+    omega (arith, reads, all, length-all_blocks view is)

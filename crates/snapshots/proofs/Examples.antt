@@ -21,9 +21,10 @@ use Rattle.rule_store.specs.Cells.{cell_with, cells_along, displacement_of}
 use Rattle.rule_store.specs.Entry.{duration_of, entry_of}
 use Rattle.rule_store.specs.Expansion.{expansion_of, values_of}
 use Rattle.rule_store.specs.Log.{block_stops, log_values, stop_at, stops_after, stops_from}
-use Rattle.snapshots.specs.JoinFlaws.{cell_after, duration_of_log}
+use Rattle.log_bounds.specs.Bounds.{cell_after, duration_of_log}
 use Rattle.snapshots.specs.Parts.{numbers_in, start_in, stops_in}
-use Rattle.snapshots.specs.Speed.{blocks_speed, log_speed, speed_of}
+use Rattle.log_bounds.specs.Bounds.{log_speed}
+use Rattle.snapshots.specs.Speed.{blocks_speed, speed_of}
 use Rattle.snapshots.specs.View.{SnapshotView, all_blocks, block_at, block_of, blocks_in}
 use Rattle.snapshots.specs.Flaws.{bits_flaw, flaw_of}
 use Rattle.snapshots.specs.declared.anchored.Anchored.{Anchored}

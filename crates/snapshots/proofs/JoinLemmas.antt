@@ -9,7 +9,7 @@ use Rattle.std.proofs.lemmas.List.{get_or_append_left, length-append, map-id, ta
 use Rattle.std.proofs.lemmas.List.Sums.{sum_by_more, sum_by_more_le}
 use Rattle.std.proofs.lemmas.List.FromFn.{length-map-range_with_len, map-range_with_len_more}
 use Rattle.std.proofs.lemmas.List.FromFn.{sum_by-map-range_with_len_more}
-use Rattle.list_laws.proofs.FirstLemmas.{first_of_range-at, first_of_range-none}
+use Rattle.list_laws.proofs.FirstLemmas.{first_of_range-all, first_of_range-at, first_of_range-none}
 use Rattle.list_laws.proofs.SumLemmas.{sum_by-range_next}
 use Rattle.track_types.specs.Frame.{periods_of}
 use Rattle.track_types.specs.declared.parts.Parts.{Parts}
@@ -156,6 +156,13 @@ module _ (parts : Parts) (rules : RulesView) (snaps : List SnapshotView) (number
   turn-flaw_is : blocks_flaw rules item ≡ join_flaw parts number
   turn-flaw_is =
       ap (λ r. blocks_flaw r item) turn.of.rules_are ∙ ap (blocks_flaw (rules_in parts)) turn.item_is
+
+  -- so it has none where no log has one
+  pub turn-flawless : logs_flaw parts ≡ None → blocks_flaw rules item ≡ None
+  unfolding logs_flaw
+  turn-flawless none =
+      turn-flaw_is ∙ first_of_range-all (join_flaw parts) 0 (periods_of parts.frame) none number (omega arith)
+      (omega (arith, turn.within))
 
   -- and the speed of its blocks is one more of the periods' speeds
   pub turn-speeds : (speeds : List ℕ) (speed : ℕ) → speeds ≡ map (speed_of parts) (range_with_len 0 number)

@@ -7,7 +7,7 @@ use Rattle.std.specs.Option.{option_map}
 use Rattle.std.proofs.lemmas.Bool.{cases_Bool, false≢true}
 use Rattle.std.proofs.lemmas.Bool.Decides.{nat_tests}
 use Rattle.std.proofs.lemmas.Int.{ints}
-use Rattle.std.proofs.lemmas.List.{get_or-map, length-map}
+use Rattle.std.proofs.lemmas.List.{get_or-map, get_or_default, length-map, same_lists}
 use Rattle.std.proofs.lemmas.List.Elements.{All-cons, All-head, All-map, All-nil, All-tail}
 use Rattle.std.proofs.lemmas.List.Folds.{list_any_at}
 use Rattle.std.proofs.lemmas.List.FromFn.{get_or-range_with_len, get_or-map-range_with_len, length-map-range_with_len, length-range_with_len}
@@ -17,7 +17,6 @@ use Rattle.std.proofs.Math.Nat.{pow-le-pow_right}
 use Rattle.std.proofs.lemmas.Nat.{pow_pos}
 use Rattle.list_laws.proofs.OptionLemmas.{All-made}
 use Rattle.list_laws.proofs.RangeLemmas.{All-from_filter_map}
-use Rattle.packed_bits.proofs.OnesLemmas.{ones_of-le-length}
 use Rattle.bit_rank.specs.Bits.{select_of}
 use Rattle.bit_rank.proofs.RankLemmas.{rank_of-le, IsSelected-select_of}
 use Rattle.track_types.specs.Frame.{grid_of, wide_of, IsFrame}
@@ -35,21 +34,25 @@ use Rattle.k2_tree.proofs.MortonLemmas.{morton_of-lt}
 use Rattle.k2_tree.proofs.RisingLemmas.{Rises-place}
 use Rattle.box_tree.specs.Boxes.{IsFrom}
 use Rattle.box_tree.specs.Levels.{digits}
-use Rattle.box_tree.specs.Places.{Ascends, ArePlaces}
+use Rattle.box_tree.specs.Places.{box_at, no_box, Ascends, ArePlaces}
 use Rattle.box_tree.specs.Tree.{levels_below, places_with, slots, AreLevels}
 use Rattle.box_tree.specs.declared.node_ref.TheConstants.{SLOTS}
 use Rattle.rule_store.specs.View.{RulesView}
 use Rattle.rule_store.specs.Entry.{entry_of}
-use Rattle.snapshots.specs.JoinFlaws.{cell_before}
+use Rattle.log_bounds.specs.Bounds.{cell_before}
 use Rattle.snapshots.specs.Parts.{block_log}
 use Rattle.snapshots.specs.Sound.{IsBlock, IsSnapshot}
 use Rattle.snapshots.specs.SoundParts.{AreSoundLogs, IsInGridAt, IsSoundLog}
-use Rattle.snapshots.specs.Tracks.{blocks_by_leaf, log_box, symbol_box, placed_boxes, track_box}
+use Rattle.log_bounds.specs.Bounds.{log_box, symbol_box, placed_boxes}
+use Rattle.snapshots.specs.Tracks.{blocks_by_leaf, track_box}
 use Rattle.snapshots.specs.TrackTree.{morton_of_block, level_count, narrow_count, block_places}
 use Rattle.snapshots.specs.View.{SnapshotView, all_blocks, block_at, block_of, leaf_at, tree_in}
 use Rattle.snapshots.specs.declared.anchored.Anchored.{Anchored}
+use Rattle.snapshots.proofs.BlockFactsLemmas.{All-all_blocks}
 use Rattle.snapshots.proofs.BlockLemmas.{leaf_known}
+use Rattle.snapshots.proofs.ByObjectLemmas.{all_blocks-placed, length-all_blocks}
 use Rattle.snapshots.proofs.LeafOrderLemmas.{by_leaf-are}
+use Rattle.snapshots.proofs.PlacesLemmas.{few_places}
 use Rattle.snapshots.proofs.SoundLemmas.{wide_of-few, wide_of-fits}
 
 -- how many digits levels have, of which so many take one each and so many two, and how many nodes wait at most
@@ -172,16 +175,19 @@ module _ (view : SnapshotView) (is : IsSnapshot view) where
       (rank_of-le view.parts.lasts p (p + 1) (omega arith))
       (omega (arith, long, leaf_known view (p + 1) is (omega arith))))))
 
-  -- the blocks are places of a tree of boxes
-  pub are_places : (rules : RulesView) → ArePlaces (block_places view.frame rules (blocks_by_leaf view))
-  are_places rules =
+  -- the blocks are places of a tree of boxes, whatever their boxes
+  pub are_places_with : (boxes : List CellBox) → length boxes ≡ length view.parts.perm
+      → ArePlaces (places_with (level_count view.frame) (narrow_count view.frame)
+      (map (morton_of_block view.frame) (blocks_by_leaf view)) boxes)
+  are_places_with boxes same =
       let frame : Frame = view.frame in
       let blocks : List Anchored = blocks_by_leaf view in
       let levels = levels_in frame in
       let limit : 4 ^ frame.height ≤ 4 ^ MAX_HEIGHT = pow-le-pow_right (omega arith) is.shaped.header.limit in
       record {
         ascend = codes-ascend;
-        same = length-map blocks (track_box rules) ∙ sym (length-map blocks (morton_of_block frame));
+        same = same ∙ sym (length-map blocks (morton_of_block frame)
+            ∙ length-map-range_with_len (block_at view) 0 (length view.parts.perm));
         small = All-map (λ code. code < code_limit) (morton_of_block frame) blocks
             (λ k d within. omega (arith, limit, morton_of-lt frame.height frame.base (get_or blocks k d).cell));
         inside = All-map (λ code. code < 4 ^ digits (levels_below (narrow_count frame) (level_count frame)))
@@ -189,6 +195,11 @@ module _ (view : SnapshotView) (is : IsSnapshot view) where
             (λ k d within. rw (digits_in_frame frame) (morton_of-lt frame.height frame.base (get_or blocks k d).cell));
         narrow = levels.narrow;
       }
+
+  pub are_places : (rules : RulesView) → ArePlaces (block_places view.frame rules (blocks_by_leaf view))
+  are_places rules =
+      are_places_with (map (track_box rules) (blocks_by_leaf view)) (length-map (blocks_by_leaf view) (track_box rules)
+      ∙ length-map-range_with_len (block_at view) 0 (length view.parts.perm))
 
   -- their numbers are those of the tree of anchors
   pub same_codes : (p : ℕ → Bool) → list_any p (map (morton_of_block view.frame) (blocks_by_leaf view))
@@ -272,23 +283,51 @@ track-inside view rules block its sound =
     let inside : k < length log = omega (arith, length-range_with_len 0 (length log)) in
     omega (arith, get_or-range_with_len 0 (length log) k d inside)))
 
--- so it lies from the grid's base on
-pub track-from : (view : SnapshotView) (rules : RulesView) → IsSnapshot view
+-- so the tracks of all blocks lie from the grid's base on
+pub tracks-from : (view : SnapshotView) (rules : RulesView) → IsSnapshot view
     → All (IsSoundLog view.frame rules view.number) (all_blocks view)
-    → All (IsFrom view.frame.base) (map (track_box rules) (blocks_by_leaf view))
-track-from view rules is sound =
-    let blocks : List Anchored = blocks_by_leaf view in
+    → All (IsFrom view.frame.base) (map (track_box rules) (all_blocks view))
+tracks-from view rules is sound =
+    let blocks : List Anchored = all_blocks view in
     let frame : Frame = view.frame in
     let side : 2 ^ frame.height ≤ 2 ^ MAX_HEIGHT = pow-le-pow_right (omega arith) is.shaped.header.limit in
     All-map (IsFrom frame.base) (track_box rules) blocks (λ k d within.
-    let inside = track-inside view rules (get_or blocks k d) (by_leaf-are view is k d within)
-    (All-by_leaf view is (IsSoundLog frame rules view.number) sound k d within) in
+    let inside = track-inside view rules (get_or blocks k d) (All-all_blocks view is k d within) (sound k d within) in
     record {
       left = inside.left;
       right = omega (arith, ints, inside.right, side);
       below = inside.below;
       above = omega (arith, ints, inside.above, side);
     })
+
+-- what holds of all areas holds of those at some places
+pub All-picked : (P : CellBox → Type 0) (areas : List CellBox) (places : List ℕ) → All P areas
+    → All (λ place. place < length areas) places → All P (map (box_at areas) places)
+All-picked P areas places each within =
+    All-map P (box_at areas) places (λ k d below. each (get_or places k d) no_box (within k d below))
+
+-- the boxes of tracks by object, picked in leaf order
+pub tracks-picked : (view : SnapshotView) (rules : RulesView) (areas : List CellBox) → IsSnapshot view
+    → areas ≡ map (track_box rules) (all_blocks view)
+    → map (box_at areas) view.parts.perm ≡ map (track_box rules) (blocks_by_leaf view)
+tracks-picked view rules areas is are =
+    let perm : List ℕ = view.parts.perm in
+    let count = length-map-range_with_len (block_at view) 0 (length perm) in
+    same_lists (map (box_at areas) perm) (map (track_box rules) (blocks_by_leaf view))
+    (length-map perm (box_at areas) ∙ sym (length-map (blocks_by_leaf view) (track_box rules) ∙ count))
+    (λ place d below.
+    let within : place < length perm = omega (arith, length-map perm (box_at areas)) in
+    let rank : ℕ = slice_index perm place in
+    let block : Anchored = block_at view place in
+    let inside : rank < length (all_blocks view) =
+    omega (arith, is.sound.permutes.within place within, length-all_blocks view is) in
+    get_or-map (box_at areas) perm place 0 d within
+    ∙ ap (λ (xs : List CellBox). box_at xs rank) are
+    ∙ get_or-map (track_box rules) (all_blocks view) rank block no_box inside
+    ∙ ap (track_box rules) (all_blocks-placed view is place block within)
+    ∙ sym (get_or-map (track_box rules) (blocks_by_leaf view) place block d (omega (arith, count, within))
+    ∙ ap (track_box rules)
+    (get_or-map-range_with_len (block_at view) 0 (length perm) place place block within (omega arith))))
 
 -- the cells of blocks are in the grid
 pub by_leaf-inside : (view : SnapshotView) → IsSnapshot view
@@ -299,33 +338,30 @@ by_leaf-inside view is = λ k d within. (by_leaf-are view is k d within).cell
 pub length-by_leaf : (view : SnapshotView) → length (blocks_by_leaf view) ≡ length view.parts.perm
 length-by_leaf view = length-map-range_with_len (block_at view) 0 (length view.parts.perm)
 
--- what it takes that they are kept
-pub record IsStorable (frame : Frame) (blocks : List Anchored) (boxes : List CellBox) : Type 0 where
+-- what it takes that found blocks are kept
+pub record IsStorable (frame : Frame) (blocks : List Anchored) (codes : List ℕ) (boxes : List CellBox) : Type 0 where
   pub header : IsFrame frame
   pub places : ArePlaces (places_with (level_count frame) (narrow_count frame) (map (morton_of_block frame) blocks) boxes)
-  pub inside : All (λ block. IsInGrid frame.height frame.base block.cell) blocks
   pub from : All (IsFrom frame.base) boxes
+  pub codes_are : codes ≡ map (morton_of_block frame) blocks
   pub few : length blocks < 2 ^ 31
 
-pub IsStorable-judged : (view : SnapshotView) (rules : RulesView) (frame : Frame) (blocks : List Anchored)
-    (boxes : List CellBox)
-    → IsSnapshot view → AreSoundLogs rules view → frame ≡ view.frame → blocks ≡ blocks_by_leaf view
-    → boxes ≡ map (track_box rules) (blocks_by_leaf view) → IsStorable frame blocks boxes
-IsStorable-judged view rules frame blocks boxes is sound same blocks_are boxes_are =
-    let few : view.objects ≤ MAX_OBJECTS = is.shaped.few in
-    subst (λ (f : Frame). IsStorable f blocks boxes) (sym same)
-    (subst (λ bs. IsStorable view.frame bs boxes) (sym blocks_are)
-    (subst (IsStorable view.frame (blocks_by_leaf view)) (sym boxes_are) (record {
+-- those of a snapshot are storable with the boxes that are picked of areas from the grid's base on
+pub IsStorable-picked : (view : SnapshotView) (areas : List CellBox) (frame : Frame) (blocks : List Anchored) (codes : List ℕ)
+    (boxes : List CellBox) → IsSnapshot view → length areas ≡ length view.parts.perm → All (IsFrom view.frame.base) areas
+    → frame ≡ view.frame → blocks ≡ blocks_by_leaf view
+    → codes ≡ map (morton_of_block view.frame) (blocks_by_leaf view) → boxes ≡ map (box_at areas) view.parts.perm
+    → IsStorable frame blocks codes boxes
+IsStorable-picked view areas frame blocks codes boxes is long from frame_is blocks_are codes_are boxes_are =
+    let perm : List ℕ = view.parts.perm in
+    let few : length perm ≤ MAX_OBJECTS = few_places view is in
+    subst (λ (f : Frame). IsStorable f blocks codes boxes) (sym frame_is)
+    (subst (λ bs. IsStorable view.frame bs codes boxes) (sym blocks_are)
+    (subst (IsStorable view.frame (blocks_by_leaf view) codes) (sym boxes_are) (record {
       header = is.shaped.header;
-      places = are_places view is rules;
-      inside = by_leaf-inside view is;
-      from = track-from view rules is sound;
-      few = omega (
-        arith,
-        few,
-        length-by_leaf view,
-        is.shaped.perm,
-        is.shaped.presence,
-        ones_of-le-length view.parts.present,
-      );
+      places = are_places_with view is (map (box_at areas) perm) (length-map perm (box_at areas));
+      from = All-picked (IsFrom view.frame.base) areas perm from
+          (λ k d within. omega (arith, long, get_or_default perm k d 0 within, is.sound.permutes.within k within));
+      codes_are = codes_are;
+      few = omega (arith, few, length-by_leaf view);
     })))

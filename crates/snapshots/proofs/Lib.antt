@@ -18,7 +18,6 @@ mod OnesLemmas
 mod AheadLemmas
 mod ChosenLemmas
 pub mod LogsLemmas
-mod SpeedLemmas
 pub mod ByObjectLemmas
 mod JudgingLemmas
 pub mod JoinLemmas
@@ -27,6 +26,7 @@ pub mod ReachLemmas
 pub mod TrackLemmas
 pub mod LeafOrderLemmas
 pub mod KeptLemmas
+mod BoundedLemmas
 pub mod UpgradeLemmas
 pub mod UpgradeLawLemmas
 pub mod TracksLemmas

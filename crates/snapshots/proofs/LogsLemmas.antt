@@ -3,8 +3,7 @@ use Rattle.std.proofs.Common.{◌≡◌, ℕ, ◌+◌, ◌-◌, ◌*◌, ◌^◌
 use Rattle.std.specs.Prelude.{slice_index}
 use Rattle.std.proofs.lemmas.Bool.{cases_lt, eq-eqb, ne_eqb}
 use Rattle.std.proofs.lemmas.Int.{ints}
-use Rattle.std.proofs.lemmas.List.{length-drop, length-map, length-take, take_more}
-use Rattle.std.proofs.lemmas.List.Sums.{sum_by_push}
+use Rattle.std.proofs.lemmas.List.{length-drop, length-take, take_more}
 use Rattle.list_laws.proofs.FindLemmas.{find_in_range-first, find_in_range-none}
 use Rattle.track_types.specs.Flaws.{flaw_in}
 use Rattle.track_types.specs.Near.{IsCellWithin}
@@ -15,42 +14,18 @@ use Rattle.rule_store.specs.Cells.{cell_with, displacement_of, moved}
 use Rattle.rule_store.specs.Log.{log_of}
 use Rattle.rule_store.specs.declared.log_view.LogView.{LogView}
 use Rattle.rule_store.proofs.CellLemmas.{same_cell}
-use Rattle.rule_store.specs.Expansion.{expansion_of, values_of}
-use Rattle.rule_store.specs.Entry.{duration_of, entry_of, IsEntryWithin}
+use Rattle.rule_store.specs.Expansion.{values_of}
+use Rattle.rule_store.specs.Entry.{entry_of, IsEntryWithin}
 use Rattle.rule_store.specs.declared.entry.Entry.{Entry}
 use Rattle.track_types.specs.declared.flaw.Kind.TheVariants as kind
 use Rattle.track_types.specs.declared.flaw.Section.TheVariants.{Lengths, Log}
 use Rattle.track_types.specs.declared.limit.TheConstants.{MAX_PERIOD, MAX_REACH}
 use Rattle.snapshots.specs.Parts.{block_log}
-use Rattle.snapshots.specs.JoinFlaws.{cell_after, cell_before, instants_after, is_along, is_off_grid, duration_of_log, log_flaw}
+use Rattle.log_bounds.specs.Bounds.{cell_after, cell_before, duration_of_log}
+use Rattle.log_bounds.proofs.LogLemmas.{cell_after-more, duration_of_log-more, moved-entry}
+use Rattle.snapshots.specs.JoinFlaws.{instants_after, is_along, is_off_grid, log_flaw}
 use Rattle.snapshots.specs.JoinFlaws.{off_grid_at, passes_grid}
 use Rattle.snapshots.specs.declared.anchored.Anchored.{Anchored}
-
-module _ (rules : RulesView) where
-  -- one symbol more
-  pub cell_after-more : (cell : Cell) (log : List ℕ) (symbol : ℕ)
-      → cell_after rules cell (log ++ symbol ∷ [])
-      ≡ moved (cell_after rules cell log) (displacement_of (values_of rules symbol))
-  unfolding cell_after
-  cell_after-more cell [] symbol = refl
-  cell_after-more cell (other ∷ log) symbol =
-      cell_after-more (moved cell (displacement_of (values_of rules other))) log symbol
-
-  -- an entry lasts as long as its symbol
-  pub duration_of-entry : (symbol : ℕ) → (entry_of rules symbol).duration ≡ duration_of rules symbol
-  unfolding entry_of duration_of values_of
-  duration_of-entry symbol = length-map (expansion_of rules symbol) (slice_index rules.alphabet)
-
-  pub duration_of_log-more : (log : List ℕ) (symbol : ℕ)
-      → duration_of_log rules (log ++ symbol ∷ []) ≡ duration_of_log rules log + (entry_of rules symbol).duration
-  unfolding duration_of_log
-  duration_of_log-more log symbol = omega (arith, sum_by_push (duration_of rules) log symbol, duration_of-entry symbol)
-
-  -- an entry moves as far as its symbol
-  pub moved-entry : (cell : Cell) (symbol : ℕ) → moved cell ((entry_of rules symbol).dx, (entry_of rules symbol).dy)
-      ≡ moved cell (displacement_of (values_of rules symbol))
-  unfolding entry_of
-  moved-entry cell symbol = refl
 
 -- numbers, moved by an amount, that lie among those of a side, or not
 pub along-before : (height : ℕ) (least amount first last : ℤ) → (amount +ℤ first) <ℤ least

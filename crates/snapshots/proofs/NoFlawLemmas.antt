@@ -17,7 +17,8 @@ use Rattle.rule_store.specs.Entry.{entry_of}
 use Rattle.rule_store.specs.Flaws.{box_passes, is_far, is_rule_flawed, reach_limit, rule_parts, rules_flaw}
 use Rattle.rule_store.specs.declared.entry.Entry.{Entry}
 use Rattle.rule_store.proofs.FlawLemmas.{code_flaw-none, rule_flaw-none, rules_flaw-none, symbol_flaw-none}
-use Rattle.snapshots.specs.JoinFlaws.{block_flaw, blocks_flaw, cell_before, is_along, is_off_grid, log_flaw, logs_flaw, off_grid_at, passes_grid}
+use Rattle.log_bounds.specs.Bounds.{cell_before}
+use Rattle.snapshots.specs.JoinFlaws.{block_flaw, blocks_flaw, is_along, is_off_grid, log_flaw, logs_flaw, off_grid_at, passes_grid}
 use Rattle.snapshots.specs.Parts.{block_log, rules_in, snapshot_in}
 use Rattle.snapshots.specs.SoundParts.{AreSoundLogs, AreSoundRules, IsBoxInReach, IsInGridAt, IsRule, IsShortEntry, IsSoundLog}
 use Rattle.snapshots.specs.View.{SnapshotView, all_blocks, rank_in}

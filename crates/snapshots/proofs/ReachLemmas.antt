@@ -32,17 +32,17 @@ use Rattle.rule_store.proofs.BoxLemmas.{box_round-bounds, box_round-none}
 use Rattle.rule_store.proofs.CellLemmas.{present-moved, same_cell}
 use Rattle.rule_store.proofs.LogLemmas.{stops_after-cons, stops_after-none}
 use Rattle.snapshots.specs.Flaws.{IsShapedView}
-use Rattle.snapshots.specs.JoinFlaws.{cell_after, cell_before, duration_of_log}
+use Rattle.log_bounds.specs.Bounds.{cell_after, cell_before, duration_of_log}
 use Rattle.snapshots.specs.Parts.{anchored_at, first_in, block_log, no_period, period_at, rules_in, snapshot_in, start_in, stops_of}
 use Rattle.snapshots.specs.Sound.{IsBlock, IsSnapshot}
 use Rattle.snapshots.specs.SoundParts.{IsInGridAt, IsSoundLog, IsValid}
-use Rattle.snapshots.specs.Speed.{block_speed, far_of, gap, hull_speed, log_speed, speed_of, symbol_speed, width_at, IsReached, IsWithinReach}
+use Rattle.log_bounds.specs.Bounds.{far_of, gap, hull_speed, log_speed, symbol_speed}
+use Rattle.snapshots.specs.Speed.{block_speed, blocks_speed, speed_of, width_at, IsReached, IsWithinReach}
 use Rattle.snapshots.specs.Stores.{snapshots_in, AreOf}
-use Rattle.snapshots.specs.View.{all_blocks, view_with}
+use Rattle.snapshots.specs.View.{SnapshotView, all_blocks, view_with}
 use Rattle.snapshots.specs.declared.anchored.Anchored.{Anchored}
 use Rattle.snapshots.proofs.BlockFactsLemmas.{All-all_blocks}
 use Rattle.snapshots.proofs.JoinLemmas.{start_in-within}
-use Rattle.snapshots.proofs.SpeedLemmas.{block_speed-most}
 
 -- a cell is in a box that is moved to another cell
 pub record IsCovered (cell : Cell) (hull : CellBox) (other : Cell) : Type 0 where
@@ -314,6 +314,12 @@ IsSnapshot-valid parts valid number within =
           ));
       sound = valid.sound.periods number within;
     }
+
+-- no block is faster than its period
+block_speed-most : (rules : RulesView) (view : SnapshotView)
+    → All (λ block. block_speed rules block ≤ blocks_speed rules view) (all_blocks view)
+unfolding blocks_speed
+block_speed-most rules view = fold_max-each (block_speed rules) (all_blocks view) 0
 
 -- all stops of valid parts are within reach
 pub within-reach : (parts : Parts) → IsValid parts → IsWithinReach parts

@@ -20,8 +20,10 @@ use Rattle.rule_store.specs.Cells.{movement_of}
 use Rattle.rule_store.specs.Entry.{entry_of}
 use Rattle.rule_store.specs.Flaws.{box_passes, code_flaw, leads_out, reach_limit, AreRules}
 use Rattle.rule_store.proofs.FlawLemmas.{box_passes-false, near_entry, no_flaws, rule-sound, symbol-known}
-use Rattle.snapshots.specs.JoinFlaws.{block_flaw, blocks_flaw, cell_before, duration_flaw, has_columns, has_lines}
-use Rattle.snapshots.specs.JoinFlaws.{instants_after, is_along, is_off_grid, duration_of_log, log_flaw, off_grid_at, passes_grid}
+use Rattle.log_bounds.specs.Bounds.{cell_before}
+use Rattle.snapshots.specs.JoinFlaws.{block_flaw, blocks_flaw, duration_flaw, has_columns, has_lines}
+use Rattle.log_bounds.specs.Bounds.{duration_of_log}
+use Rattle.snapshots.specs.JoinFlaws.{instants_after, is_along, is_off_grid, log_flaw, off_grid_at, passes_grid}
 use Rattle.snapshots.specs.Parts.{block_log, numbers_in, rules_in, snapshot_in}
 use Rattle.snapshots.specs.SoundParts.{AreSoundLogs, AreSoundRules, IsBoxInReach, IsInGridAt, IsSound, IsSoundLog}
 use Rattle.snapshots.specs.Speed.{speed_of}

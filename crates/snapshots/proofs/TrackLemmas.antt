@@ -28,10 +28,11 @@ use Rattle.rule_store.specs.Expansion.{values_of}
 use Rattle.rule_store.specs.declared.entry.Entry.{Entry}
 use Rattle.rule_store.specs.Log.{block_stops, stop_at, stops_after, stops_from}
 use Rattle.rule_store.proofs.LogLemmas.{stops_after-cons, stops_after-none}
-use Rattle.snapshots.specs.JoinFlaws.{cell_after, cell_before}
+use Rattle.log_bounds.specs.Bounds.{cell_after, cell_before}
 use Rattle.snapshots.specs.Parts.{anchored_at, block_log, rules_in, snapshot_in}
 use Rattle.snapshots.specs.Sound.{IsBlock, IsSnapshot}
-use Rattle.snapshots.specs.Tracks.{log_box, symbol_box, placed_boxes, track_box, with_hull}
+use Rattle.log_bounds.specs.Bounds.{log_box, symbol_box, placed_boxes, with_hull}
+use Rattle.snapshots.specs.Tracks.{track_box}
 use Rattle.snapshots.specs.Tracks.{AreOnTracks, IsOnTrack}
 use Rattle.snapshots.specs.View.{SnapshotView, all_blocks, block_of}
 use Rattle.snapshots.specs.declared.anchored.Anchored.{Anchored}
@@ -134,81 +135,3 @@ on-track parts number block =
 -- those of all blocks
 pub on-tracks : (parts : Parts) (number : ℕ) → AreOnTracks parts number
 on-tracks parts number = λ k d within. on-track parts number (get_or (all_blocks (snapshot_in parts number)) k d)
-
--- a box with the hull of one symbol more
-with_hull-is : (area : CellBox) (cell : Cell) (hull : Option CellBox)
-    → with_hull area cell hull ≡ fold joined_box area (cons_option (option_map (moved_box cell) hull) [])
-with_hull-is area cell None = refl
-with_hull-is area cell (Some hull) = refl
-
-module _ (rules : RulesView) (start : Cell) (log : List ℕ) where
-  -- the box of a log's first symbols
-  abbrev pub box_before : ℕ → CellBox
-  box_before count = fold joined_box (cell_box start) (placed_boxes rules start log count)
-
-  -- one symbol more
-  pub box_before-more : (place : ℕ) (cell : Cell) (entry : Entry) (area now : CellBox)
-      → now ≡ with_hull area cell entry.hull
-      → area ≡ box_before place → cell ≡ cell_before rules start log place
-      → entry ≡ entry_of rules (slice_index log place)
-      → now ≡ box_before (place + 1)
-  box_before-more place cell entry area now made so_far stands its =
-      let there : Cell = cell_before rules start log place in
-      let hull : Option CellBox = (entry_of rules (slice_index log place)).hull in
-      made ∙ ap (λ a. with_hull a cell entry.hull) so_far ∙ ap (λ c. with_hull (box_before place) c entry.hull) stands
-      ∙ ap (λ (e : Entry). with_hull (box_before place) there e.hull) its ∙ with_hull-is (box_before place) there hull
-      ∙ sym (fold-append joined_box (cell_box start) (placed_boxes rules start log place)
-      (cons_option (symbol_box rules start log place) []))
-      ∙ ap (fold joined_box (cell_box start)) (sym (filter_map-range_more (symbol_box rules start log) place))
-
-  -- all symbols
-  pub box_before-all : (place : ℕ) → place ≡ length log → box_before place ≡ log_box rules start log
-  unfolding log_box
-  box_before-all place last = ap box_before last
-
--- the box of an object's track, if it has a block
-abbrev pub box_in : RulesView → Option Anchored → CellBox
-box_in rules None = no_box
-box_in rules (Some block) = track_box rules block
-
-module _ (rules : RulesView) (view : SnapshotView) where
-  -- the boxes of the first objects' tracks
-  abbrev pub boxes_before : ℕ → List CellBox
-  boxes_before count = map (λ index. box_in rules (block_of view index)) (range_with_len 0 count)
-
-  -- one object more
-  pub boxes_before-more : (index : ℕ) (areas : List CellBox) (area : CellBox) → areas ≡ boxes_before index
-      → area ≡ box_in rules (block_of view index) → areas ++ area ∷ [] ≡ boxes_before (index + 1)
-  boxes_before-more index areas area so_far here =
-      ap (λ xs. xs ++ area ∷ []) so_far ∙ ap (λ b. boxes_before index ++ b ∷ []) here
-      ∙ sym (map-range_with_len_more (λ i. box_in rules (block_of view i)) 0 index index (omega arith))
-
-  -- the boxes of blocks, picked by their objects
-  pub boxes_before-picked : (areas : List CellBox) (blocks : List Anchored) (index : ℕ) → areas ≡ boxes_before index
-      → index ≡ view.objects → IsSnapshot view → All (IsBlock view) blocks
-      → map (λ block. slice_index_or areas block.index no_box) blocks ≡ map (track_box rules) blocks
-  boxes_before-picked areas blocks index are last is all =
-      map_alike (λ (block : Anchored). slice_index_or areas block.index no_box) (track_box rules) blocks (λ k d within.
-      let block : Anchored = get_or blocks k d in
-      let its = all k d within in
-      let inside : block.index < index =
-      omega (arith, last, slice_get_within view.parts.present block.index true its.present, is.shaped.presence) in
-      ap (λ (xs : List CellBox). slice_index_or xs block.index no_box) are
-      ∙ get_or-map-range_with_len (λ i. box_in rules (block_of view i)) 0 index block.index block.index no_box inside
-      (omega arith)
-      ∙ ap (box_in rules) its.its)
-
-  -- blocks are picked within the objects
-  pub boxes_before-within : (areas : List CellBox) (blocks : List Anchored) (index : ℕ) → areas ≡ boxes_before index
-      → index ≡ view.objects → IsSnapshot view → All (IsBlock view) blocks
-      → All (λ block. block.index < length areas) blocks
-  boxes_before-within areas blocks index are last is all = λ k d within.
-      let its = all k d within in
-      omega (
-        arith,
-        last,
-        slice_get_within view.parts.present (get_or blocks k d).index true its.present,
-        is.shaped.presence,
-        ap length are,
-        length-map-range_with_len (λ i. box_in rules (block_of view i)) 0 index,
-      )

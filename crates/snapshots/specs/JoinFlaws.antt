@@ -1,8 +1,8 @@
 -- The first flaw of logs that leave the grid, or do not last to the end of their period.
-use Rattle.std.specs.Prelude.{ℕ, ◌+◌, ◌-◌, ◌==◌, ◌^◌, ◌&&◌, not, ℤ, pos, neg_ℤ, ◌+ℤ◌, ◌≤ℤ◌, Bool, false, if◌then◌else◌}
-use Rattle.std.specs.Prelude.{List, [], ◌∷◌, length, take, find, slice_index, Option, None, Some}
+use Rattle.std.specs.Prelude.{ℕ, ◌+◌, ◌-◌, ◌==◌, ◌^◌, ◌&&◌, not, ℤ, pos, ◌+ℤ◌, Bool, false, if◌then◌else◌}
+use Rattle.std.specs.Prelude.{List, length, find, slice_index, Option, None, Some}
 use Rattle.std.specs.Int.Signed.{le_z, lt_z}
-use Rattle.std.specs.List.{range_with_len, sum_by}
+use Rattle.std.specs.List.{range_with_len}
 use Rattle.std.specs.Option.{option_map, option_or}
 use Rattle.list_laws.specs.First.{first_given}
 use Rattle.track_types.specs.Flaws.{flaw_in}
@@ -15,35 +15,16 @@ use Rattle.track_types.specs.declared.flaw.Section.TheVariants.{Lengths, Log}
 use Rattle.track_types.specs.declared.frame.Frame.{Frame}
 use Rattle.track_types.specs.declared.parts.Parts.{Parts}
 use Rattle.rule_store.specs.View.{RulesView}
-use Rattle.rule_store.specs.Expansion.{values_of}
-use Rattle.rule_store.specs.Cells.{displacement_of, moved}
-use Rattle.rule_store.specs.Entry.{duration_of, entry_of}
+use Rattle.rule_store.specs.Entry.{entry_of}
+use Rattle.log_bounds.specs.Bounds.{cell_before, duration_of_log}
 use Rattle.snapshots.specs.View.{SnapshotView, all_blocks, rank_in}
 use Rattle.snapshots.specs.Parts.{block_log, numbers_in, rules_in, snapshot_in}
 use Rattle.snapshots.specs.declared.anchored.Anchored.{Anchored}
-
--- the cell in which an object is after these symbols, from a cell
-unfoldable pub cell_after : RulesView → Cell → List ℕ → Cell
-cell_after rules cell [] = cell
-cell_after rules cell (symbol ∷ log) = cell_after rules (moved cell (displacement_of (values_of rules symbol))) log
-
--- the cell from which a log's symbol moves on: that after the symbols before it
-abbrev pub cell_before : RulesView → Cell → List ℕ → ℕ → Cell
-cell_before rules cell log place = cell_after rules cell (take place log)
-
--- how many instants these symbols stand for
-unfoldable pub duration_of_log : RulesView → List ℕ → ℕ
-duration_of_log rules log = sum_by (duration_of rules) log
 
 -- numbers from one to another, moved by an amount, lie in a row of 2 ^ height numbers from its least one on
 abbrev pub is_along : ℕ → ℤ → ℤ → ℤ → ℤ → Bool
 is_along height least amount first last =
     le_z least (amount +ℤ first) && lt_z (amount +ℤ last) (least +ℤ pos (2 ^ height))
-
--- a number that a log may reach, whatever its symbols
-pub record IsReachable (z : ℤ) : Type 0 where
-  pub low : neg_ℤ (pos (2 ^ 60)) ≤ℤ z
-  pub high : z ≤ℤ pos (2 ^ 60)
 
 -- the columns of a box, moved to a cell, are in the grid
 abbrev pub has_columns : Frame → Cell → CellBox → Bool

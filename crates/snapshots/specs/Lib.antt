@@ -13,8 +13,10 @@ pub mod Speed
 pub mod SoundParts
 pub mod Tracks
 pub mod TrackTree
+pub mod Found
 pub mod TrackWalk
 pub mod IndexCost
 pub mod Stores
+pub mod Bounded
 pub mod Ahead
 pub mod Upgrade

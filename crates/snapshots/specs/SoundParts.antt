@@ -17,7 +17,8 @@ use Rattle.rule_store.specs.declared.entry.Entry.{Entry}
 use Rattle.snapshots.specs.View.{SnapshotView, all_blocks}
 use Rattle.snapshots.specs.Sound.{IsSoundPeriod}
 use Rattle.snapshots.specs.Parts.{block_log, rules_in, snapshot_in, start_in}
-use Rattle.snapshots.specs.JoinFlaws.{cell_before, instants_after, duration_of_log}
+use Rattle.log_bounds.specs.Bounds.{cell_before, duration_of_log}
+use Rattle.snapshots.specs.JoinFlaws.{instants_after}
 use Rattle.snapshots.specs.declared.anchored.Anchored.{Anchored}
 
 -- a movement or a corner is not farther away than two cells of the grid may be

@@ -1,8 +1,5 @@
 -- How fast objects move away from their anchors, and how far they get.
-use Rattle.std.specs.Prelude.{ℕ, ◌+◌, ◌*◌, ◌<◌, ◌≤◌, max, ℤ, ◌+ℤ◌, ◌-ℤ◌, unsigned_abs, All, List, length}
-use Rattle.std.specs.Prelude.{map, fold, take, slice_index, Option, Some, None}
-use Rattle.std.specs.Int.{div_ceil}
-use Rattle.std.specs.List.{range_with_len}
+use Rattle.std.specs.Prelude.{ℕ, ◌*◌, ◌<◌, ◌≤◌, max, ℤ, All, map, fold}
 use Rattle.track_types.specs.Frame.{periods_of}
 use Rattle.track_types.specs.Widening.{widened}
 use Rattle.track_types.specs.declared.cell.Cell.{Cell}
@@ -11,36 +8,10 @@ use Rattle.track_types.specs.declared.parts.Parts.{Parts}
 use Rattle.track_types.specs.declared.stop.Stop.{Stop}
 use Rattle.k2_tree.specs.Morton.{IsInGrid}
 use Rattle.rule_store.specs.View.{RulesView}
-use Rattle.rule_store.specs.Entry.{entry_of}
 use Rattle.snapshots.specs.View.{SnapshotView, all_blocks}
-use Rattle.snapshots.specs.JoinFlaws.{cell_before, duration_of_log}
+use Rattle.log_bounds.specs.Bounds.{gap, log_speed}
 use Rattle.snapshots.specs.Parts.{first_in, block_log, rules_in, snapshot_in, stops_of}
 use Rattle.snapshots.specs.declared.anchored.Anchored.{Anchored}
-
--- how far two numbers are apart
-abbrev pub gap : ℤ → ℤ → ℕ
-gap a b = unsigned_abs (a -ℤ b)
-
--- how far a cell is from the farthest cell of a box, by the greater of columns and lines (the Chebyshev distance); the box
--- is moved to another cell
-abbrev pub far_of : Cell → Cell → CellBox → ℕ
-far_of from cell hull = max
-    (max (gap (cell.x +ℤ hull.x1) from.x) (gap (cell.x +ℤ hull.x2) from.x))
-    (max (gap (cell.y +ℤ hull.y1) from.y) (gap (cell.y +ℤ hull.y2) from.y))
-
--- the speed at which an object gets from a cell to its farthest cell in a box in so many instants and one more
-abbrev pub hull_speed : Cell → Cell → ℕ → Option CellBox → ℕ
-hull_speed from cell before None = 0
-hull_speed from cell before (Some hull) = div_ceil (far_of from cell hull) (before + 1)
-
--- the speed of a log's symbol, from the log's first cell on
-abbrev pub symbol_speed : RulesView → Cell → List ℕ → ℕ → ℕ
-symbol_speed rules from log place = hull_speed from (cell_before rules from log place)
-    (duration_of_log rules (take place log)) (entry_of rules (slice_index log place)).hull
-
--- the greatest speed of a log's symbols
-unfoldable pub log_speed : RulesView → Cell → List ℕ → ℕ
-log_speed rules from log = fold max 0 (map (symbol_speed rules from log) (range_with_len 0 (length log)))
 
 -- the speed of a block
 abbrev pub block_speed : RulesView → Anchored → ℕ

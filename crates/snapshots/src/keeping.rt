@@ -1,15 +1,19 @@
 ghost use Rattle.std.specs.Prelude.{◌≡◌, ◌+◌, ◌^◌, ◌<◌, ◌≤◌, length, map, All, IfOk};
 ghost use Rattle.track_types.specs.Frame.{IsFrame};
 ghost use Rattle.box_tree.specs.Boxes.{IsFrom};
-ghost use Rattle.box_tree.specs.Places.{ArePlaces};
+ghost use Rattle.box_tree.specs.Places.{box_at, ArePlaces};
 ghost use Rattle.box_tree.specs.Tree.{places_with};
 ghost use Rattle.rule_store.specs.View.{RulesView};
 ghost use Rattle.snapshots.specs.Cost.{record_reads};
 ghost use Rattle.snapshots.specs.TrackTree.{begin_of, morton_of_block, level_count, length_and_index, narrow_count, IsKept};
+ghost use Rattle.snapshots.specs.Found.{AreFound};
 ghost use Rattle.snapshots.specs.TrackWalk.{block_kept};
-ghost use Rattle.snapshots.specs.Tracks.{track_box};
+ghost use Rattle.snapshots.specs.Tracks.{blocks_by_leaf, track_box};
+ghost use Rattle.snapshots.specs.View.{all_blocks};
 
 use crate::anchored::Anchored;
+use crate::finding::FoundBlocks;
+use crate::snapshot::Snapshot;
 use crate::track_tree::TrackTree;
 use box_tree::BoxTree;
 use std::alloc::Global;
@@ -71,6 +75,38 @@ impl TrackTree {
             len,
         }
     }
+}
+
+/// Keeps the blocks that were found of a period with the boxes of their tracks, which are given by object. The boxes lie
+/// from the grid's base on.
+pub fn keep_tracks(
+    alloc: Global,
+    snapshot: &Snapshot,
+    found: &FoundBlocks,
+    areas: &[CellBox],
+) -> Result<Option<Box<TrackTree>>, Memory>
+    requires found { AreFound snapshot.now found.now }
+    requires long { length areas.now ≡ length snapshot.now.parts.perm }
+    requires from { All (IsFrom snapshot.now.frame.base) areas.now }
+    ensures { IfOk result (λ kept. (rules : RulesView)
+        → areas.now ≡ map (track_box rules) (all_blocks snapshot.now)
+        → IsKept snapshot.now.frame rules (blocks_by_leaf snapshot.now) kept) }
+{
+    let frame = snapshot.frame();
+    let boxes = picked(alloc, areas, &found.ranks)?;
+    TrackTree::store(alloc, frame, &found.by_leaf, &found.codes, &boxes)
+}
+
+// The areas at some places.
+fn picked(alloc: Global, areas: &[CellBox], places: &[u32]) -> Result<Vec<CellBox>, Memory>
+    requires { All (λ place. place < length areas.now) places.now }
+    ensures { IfOk result (λ boxes. boxes.items ≡ map (box_at areas.now) places.now) }
+{
+    let mut boxes = Vec::with_capacity(alloc, places.len())?;
+    for place in places {
+        boxes.push(areas[*place as usize])?;
+    }
+    Ok(boxes)
 }
 
 // Where the blocks and their logs begin.

@@ -1,5 +1,5 @@
 ghost use Rattle.std.specs.Prelude.{◌≡◌, ◌+◌, ◌<◌, ◌≤◌, ◌^◌, None, Some, length, IfErr, IfOk, OnOk};
-ghost use Rattle.std.specs.Prelude.{map, max, sum, slice_index_or, All, pos, ◌+ℤ◌, ◌≤ℤ◌, IfSome};
+ghost use Rattle.std.specs.Prelude.{map, max, sum, pos, ◌≤ℤ◌, IfSome};
 ghost use Rattle.track_types.specs.Frame.{instants_in, periods_of, IsFrame};
 ghost use Rattle.track_types.specs.Near.{IsBoxWithin, IsCellWithin, IsNear, IsWithin};
 ghost use Rattle.track_types.specs.declared.limit.TheConstants.{MAX_HEIGHT, MAX_SYMBOLS};
@@ -8,21 +8,23 @@ ghost use Rattle.snapshots.specs.Flaws.{IsSnapFaultFor};
 ghost use Rattle.snapshots.specs.Parts.{block_log};
 ghost use Rattle.snapshots.specs.Sound.{IsSnapshot};
 ghost use Rattle.snapshots.specs.IndexCost.{blocks_reads};
-ghost use Rattle.snapshots.specs.JoinFlaws.{blocks_flaw, has_columns, has_lines, is_along, duration_of_log, log_flaw};
-ghost use Rattle.snapshots.specs.JoinFlaws.{off_grid_at, passes_grid, IsReachable};
+ghost use Rattle.log_bounds.specs.Bounds.{duration_of_log, IsReachable};
+ghost use Rattle.snapshots.specs.JoinFlaws.{blocks_flaw, has_columns, has_lines, is_along, log_flaw};
+ghost use Rattle.snapshots.specs.JoinFlaws.{off_grid_at, passes_grid};
 ghost use Rattle.snapshots.specs.TrackTree.{IsKept};
-ghost use Rattle.box_tree.specs.Places.{no_box};
 ghost use Rattle.snapshots.specs.Tracks.{blocks_by_leaf, track_box};
-ghost use Rattle.snapshots.specs.Speed.{block_speed, blocks_speed, far_of, gap, hull_speed};
+ghost use Rattle.snapshots.specs.Speed.{block_speed, blocks_speed};
+ghost use Rattle.snapshots.specs.View.{all_blocks};
 
 use crate::ahead::Ahead;
 use crate::anchored::Anchored;
 use crate::checking::{flaw, instants_in};
 use crate::fault::SnapFault;
-use crate::finding::find_blocks;
-use crate::placing::{no_box, with_hull};
+use crate::finding::{find_blocks, reordered};
+use crate::judged::Judged;
+use crate::keeping::keep_tracks;
 use crate::snapshot::Snapshot;
-use crate::track_tree::TrackTree;
+use log_bounds::LogBounds;
 use rule_store::RuleStore;
 use std::alloc::Global;
 use std::sync::ledger::Ledger;
@@ -34,19 +36,18 @@ use track_types::{Cell, CellBox, Frame, Kind, Memory, Section};
 pub struct LogSummary {
     /// How many instants they stand for.
     pub duration: u64,
-    /// How many cells an instant its object gets away from its anchor at most, or a greater number that was given.
-    pub speed: u64,
-    /// The box of its track.
-    pub area: CellBox,
+    /// The box of its track, and how many cells an instant its object gets away from its anchor at most, or a greater
+    /// number that was given.
+    pub bounds: LogBounds,
 }
 
-/// What is found of a period by the logs of its blocks, where all of these stay in the grid to its end.
+// What is found of the logs of a period's blocks.
 #[derive(Drop)]
-pub struct Judged {
-    /// The greatest speed of a block, in cells an instant.
-    pub speed: u64,
-    /// What is kept of the blocks for searches, where there is one.
-    pub tracks: Option<Box<TrackTree>>,
+struct JudgedLogs {
+    // The greatest speed of a block, in cells an instant.
+    speed: u64,
+    // The boxes of the blocks' tracks, by object.
+    areas: Vec<CellBox>,
 }
 
 /// Judges the logs of all blocks of a snapshot by object, and answers the first flaw, or what is found of the
@@ -71,38 +72,46 @@ pub fn judge_snapshot<L: Ledger>(
         ≤ steps.old + (blocks_reads snapshot.now + sum snapshot.now.parts.lengths) }
 {
     let found = find_blocks(alloc, snapshot, steps)?;
+    let blocks = reordered(alloc, &found.by_leaf, &found.ranks)?;
+    let logs = judge_logs(alloc, rules, snapshot, number, &blocks, steps)?;
+    let tracks = keep_tracks(alloc, snapshot, &found, &logs.areas)?;
+    Ok(Judged {
+        speed: logs.speed,
+        tracks,
+    })
+}
+
+// Judges the logs of a snapshot's blocks, which are given by object.
+fn judge_logs<L: Ledger>(
+    alloc: Global,
+    rules: &RuleStore,
+    snapshot: &Snapshot,
+    number: u32,
+    blocks: &[Anchored],
+    steps: &mut Steps<L>,
+) -> Result<JudgedLogs, SnapFault>
+    requires number { number ≡ snapshot.now.number }
+    requires symbols { snapshot.now.start + sum snapshot.now.parts.lengths
+        ≤ length rules.now.symbols }
+    requires blocks { blocks.now ≡ all_blocks snapshot.now }
+    ensures exact { OnOk result (blocks_flaw rules.now snapshot.now ≡ None) }
+    ensures speed { IfOk result (λ logs. logs.speed ≡ blocks_speed rules.now snapshot.now) }
+    ensures areas { IfOk result (λ logs.
+        logs.areas.items ≡ map (track_box rules.now) (all_blocks snapshot.now)) }
+    ensures flaw { IfErr result (λ fault. IsSnapFaultFor (blocks_flaw rules.now snapshot.now) fault) }
+    ensures cost { steps.new ≤ steps.old + sum snapshot.now.parts.lengths }
+{
     let frame = snapshot.frame();
     let (from, len) = snapshot.logs();
     let mut ahead = Ahead::new(rules, from, len);
-    let mut rank = 0;
     let mut speed = 0u64;
-    let mut areas = Vec::with_capacity(alloc, snapshot.objects() as usize)?;
-    for slot in &found.by_object {
-        let mut area = no_box();
-        if let Some(block) = slot {
-            let log = judge_log(&mut ahead, frame, number, rank, block, speed, steps)?;
-            speed = log.speed;
-            area = log.area;
-            rank += 1;
-        }
-        areas.push_reserved(area);
+    let mut areas = Vec::with_capacity(alloc, blocks.len())?;
+    for (rank, block) in blocks.iter().enumerate() {
+        let log = judge_log(&mut ahead, frame, number, rank as u32, block, speed, steps)?;
+        speed = log.bounds.speed;
+        areas.push_reserved(log.bounds.area);
     }
-    let boxes = by_leaf(alloc, &found.by_leaf, &areas)?;
-    let tracks = TrackTree::store(alloc, frame, &found.by_leaf, &found.codes, &boxes)?;
-    Ok(Judged { speed, tracks })
-}
-
-// The areas of blocks in their order, from those of all objects.
-fn by_leaf(alloc: Global, blocks: &[Anchored], areas: &[CellBox]) -> Result<Vec<CellBox>, Memory>
-    requires { All (λ block. block.index < length areas.now) blocks.now }
-    ensures { IfOk result (λ boxes. boxes.items
-        ≡ map (λ block. slice_index_or areas.now block.index no_box) blocks.now) }
-{
-    let mut boxes = Vec::with_capacity(alloc, blocks.len())?;
-    for block in blocks {
-        boxes.push(areas[block.index as usize])?;
-    }
-    Ok(boxes)
+    Ok(JudgedLogs { speed, areas })
 }
 
 // Judges the log of a block, which has this place among those of the period with this number. It answers what is
@@ -129,8 +138,8 @@ fn judge_log<L: Ledger>(
     ensures exact { OnOk result (log_flaw frame.now ahead.old.rules number rank block.now ≡ None) }
     ensures flaw { IfErr result (λ fault.
         IsSnapFaultFor (log_flaw frame.now ahead.old.rules number rank block.now) fault) }
-    ensures speed { IfOk result (λ log. log.speed ≡ max fastest (block_speed ahead.old.rules block.now)) }
-    ensures area { IfOk result (λ log. log.area ≡ track_box ahead.old.rules block.now) }
+    ensures speed { IfOk result (λ log. log.bounds.speed ≡ max fastest (block_speed ahead.old.rules block.now)) }
+    ensures area { IfOk result (λ log. log.bounds.area ≡ track_box ahead.old.rules block.now) }
     ensures place { OnOk result (ahead.new.place ≡ block.now.from + block.now.len) }
     ensures read { IsReadOn ahead.old ahead.new steps.old steps.new }
 {
@@ -168,8 +177,8 @@ fn read_log<L: Ledger>(
     ensures ok { IfOk result (λ summary.
         summary.duration ≡ duration_of_log ahead.old.rules (block_log ahead.old.rules block.now)) }
     ensures speed { IfOk result (λ summary.
-        summary.speed ≡ max fastest (block_speed ahead.old.rules block.now)) }
-    ensures area { IfOk result (λ summary. summary.area ≡ track_box ahead.old.rules block.now) }
+        summary.bounds.speed ≡ max fastest (block_speed ahead.old.rules block.now)) }
+    ensures area { IfOk result (λ summary. summary.bounds.area ≡ track_box ahead.old.rules block.now) }
     ensures err { IfErr result (λ place.
         off_grid_at frame.now ahead.old.rules block.now.cell (block_log ahead.old.rules block.now) ≡ Some place) }
     ensures within { IfErr result (λ place. place < block.now.len) }
@@ -178,75 +187,23 @@ fn read_log<L: Ledger>(
 {
     let mut cell = block.cell;
     let mut duration = 0;
-    let mut speed = fastest;
-    let mut area = CellBox::of(block.cell);
+    let mut bounds = LogBounds {
+        speed: fastest,
+        area: CellBox::of(block.cell),
+    };
     for place in 0..block.len {
         let entry = ahead.next(steps);
         if passes_grid(frame, cell, &entry.hull) {
             return Err(place);
         }
-        speed = raised(speed, block.cell, cell, duration, &entry.hull);
-        area = with_hull(area, cell, &entry.hull);
+        bounds = bounds.with(block.cell, cell, duration, &entry.hull);
         cell = Cell {
             x: cell.x + entry.dx,
             y: cell.y + entry.dy,
         };
         duration += u64::from(entry.duration);
     }
-    Ok(LogSummary {
-        duration,
-        speed,
-        area,
-    })
-}
-
-// The greater of two speeds: the given one, and that at which an object gets from a cell to the farthest
-// cell of a box in so many instants and one more. The box is moved to another cell; without one the
-// second speed is 0.
-fn raised(speed: u64, from: Cell, cell: Cell, before: u64, hull: &Option<CellBox>) -> u64
-    requires from { IsCellWithin from }
-    requires column { IsReachable cell.x }
-    requires line { IsReachable cell.y }
-    requires before { before < 2 ^ 60 }
-    requires hull { IfSome hull.now IsBoxWithin }
-    ensures { result ≡ max speed (hull_speed from cell before hull.now) }
-{
-    let Some(hull) = hull else {
-        return speed;
-    };
-    let far = far_of(from, cell, hull);
-    // A division takes longer than all else here, so it is made only where the speed rises.
-    if far <= speed.saturating_mul(before + 1) {
-        return speed;
-    }
-    far.div_ceil(before + 1)
-}
-
-// How far a cell is from the farthest cell of a box, which is moved to another cell: by columns or by
-// lines, whichever is more.
-fn far_of(from: Cell, cell: Cell, hull: &CellBox) -> u64
-    requires from { IsCellWithin from }
-    requires column { IsReachable cell.x }
-    requires line { IsReachable cell.y }
-    requires hull { IsBoxWithin hull.now }
-    ensures { result ≡ far_of from cell hull.now }
-{
-    let columns = far_along(from.x, cell.x, hull.x1, hull.x2);
-    let lines = far_along(from.y, cell.y, hull.y1, hull.y2);
-    columns.max(lines)
-}
-
-// How far a number is from the farther one of two, which are moved by an amount.
-fn far_along(from: i64, amount: i64, first: i64, last: i64) -> u64
-    requires from { IsWithin from }
-    requires amount { IsReachable amount }
-    requires first { IsWithin first }
-    requires last { IsWithin last }
-    ensures { result ≡ max (gap (amount +ℤ first) from) (gap (amount +ℤ last) from) }
-{
-    let before = (amount + first - from).unsigned_abs();
-    let behind = (amount + last - from).unsigned_abs();
-    before.max(behind)
+    Ok(LogSummary { duration, bounds })
 }
 
 // Whether a box, moved to a cell, passes the grid. Where there is no box, nothing does.

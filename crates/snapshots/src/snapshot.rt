@@ -344,21 +344,23 @@ impl Snapshot {
     }
 
     // The block at a place in leaf order, in whose leaf's cell its anchor is, by the places of the present objects.
+    // Its place by object comes before it.
     pub(crate) fn block_among<L: Ledger>(
         &self,
         present: &[u32],
         place: u32,
         cell: Cell,
         steps: &mut Steps<L>,
-    ) -> Anchored
+    ) -> (u32, Anchored)
         requires within { place < length self.now.parts.perm }
         requires cell { slice_get (tree_in self.now).cells (leaf_at self.now place) ≡ Some cell }
         requires present { present.now ≡ first_ones self.now.parts.present (length self.now.parts.perm) }
-        ensures value { result ≡ block_at self.now place }
+        ensures rank { result.0 ≡ slice_index self.now.parts.perm place }
+        ensures value { result.1 ≡ block_at self.now place }
         ensures cost { steps.new ≤ steps.old + at_reads }
     {
         let rank = self.blocks().perm.at(place, steps);
-        self.block(present[rank as usize], rank, cell)
+        (rank, self.block(present[rank as usize], rank, cell))
     }
 
     // Whether the object at a place in leaf order is the last of its cell.

@@ -1,6 +1,7 @@
 ghost use Rattle.std.specs.Prelude.{◌≡◌, ℕ, ◌+◌, ◌<◌, ◌≤◌, [], None, length, slice_get, IfErr, IfNone, IfOk, IfSome, OnOk, Some};
 ghost use Rattle.track_types.specs.Frame.{periods_of};
 ghost use Rattle.track_types.specs.Shape.{IsShaped};
+ghost use Rattle.snapshots.specs.Bounded.{AreBounds};
 ghost use Rattle.snapshots.specs.Flaws.{IsSnapFaultFor};
 ghost use Rattle.snapshots.specs.IndexCost.{open_cost};
 ghost use Rattle.snapshots.specs.JoinFlaws.{logs_flaw};
@@ -21,6 +22,7 @@ ghost use Rattle.snapshots.specs.Tracks.{blocks_by_leaf, cell_box, may_hold, Are
 ghost use Rattle.snapshots.specs.View.{all_blocks, block_of, tree_in};
 
 use crate::anchored::Anchored;
+use crate::bounded::keep_bounded;
 use crate::fault::SnapFault;
 use crate::kept_walk::KeptWalk;
 use crate::logs::judge_snapshot;
@@ -29,6 +31,7 @@ use crate::track_tree::TrackTree;
 use crate::tracks::Tracks;
 use crate::upgrading::{newest, upgraded};
 use box_tree::Search;
+use log_bounds::PackedBounds;
 use rule_store::RuleStore;
 use std::alloc::Global;
 use std::marker::Model;
@@ -104,6 +107,47 @@ impl Stores {
             let judged = judge_snapshot(alloc, &rules, snapshot, number, steps)?;
             speeds.push_reserved(judged.speed);
             tracks.push_reserved(judged.tracks);
+        }
+        let _ = rules.sizes(); // says that the rules are sound
+        Ok(Stores {
+            frame,
+            objects,
+            rules,
+            snaps,
+            speeds,
+            tracks,
+        })
+    }
+
+    /// Joins the parts of an index whose logs have no flaw, with what bounds each of them: the bounds of the blocks of
+    /// each period in turn, by object, where cells are counted from the base of the grid.
+    ///
+    /// The parts are those that `join` takes, and the same stores come of them. It reads no symbol, but what leads to the
+    /// blocks of each snapshot. The bounds of a period are let go when it is done. Memory is taken for what `join` keeps,
+    /// and for the blocks of a period and their boxes while the call runs.
+    pub fn join_bounded<L: Ledger>(
+        alloc: Global,
+        frame: Frame,
+        objects: List32,
+        rules: RuleStore,
+        snaps: Vec<Snapshot>,
+        bounds: Vec<Vec<PackedBounds>>,
+        steps: &mut Steps<L>,
+    ) -> Result<Stores, Memory>
+        requires of { AreOf (join_of frame objects rules snaps.items) rules snaps.items }
+        requires flawless { logs_flaw (join_of frame objects rules snaps.items) ≡ None }
+        requires bounds { AreBounds (join_of frame objects rules snaps.items) bounds.items }
+        ensures ok { IfOk result (λ stores. stores ≡ join_of frame objects rules snaps.items) }
+        ensures cost { steps.new ≤ steps.old + open_cost (join_of frame objects rules snaps.items) }
+    {
+        let mut speeds = Vec::with_capacity(alloc, snaps.len())?;
+        let mut tracks = Vec::with_capacity(alloc, snaps.len())?;
+        for of_period in bounds {
+            let number = speeds.len();
+            let snapshot = &snaps[number];
+            let kept = keep_bounded(alloc, snapshot, &of_period, steps)?;
+            speeds.push_reserved(kept.speed);
+            tracks.push_reserved(kept.tracks);
         }
         let _ = rules.sizes(); // says that the rules are sound
         Ok(Stores {

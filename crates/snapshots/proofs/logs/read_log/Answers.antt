@@ -5,11 +5,11 @@ use Rattle.rule_store.specs.Entry.{entry_of}
 use Rattle.snapshots.specs.Ahead.{stored_entry}
 use Rattle.snapshots.specs.Parts.{block_log}
 use Rattle.snapshots.proofs.AheadLemmas.{range-at}
-use Rattle.snapshots.specs.Speed.{hull_speed}
+use Rattle.log_bounds.specs.Bounds.{hull_speed}
 use Rattle.snapshots.proofs.LogsLemmas.{length-block_log, off_grid-found, off_grid-none, reading-more}
 use Rattle.snapshots.proofs.LogsLemmas.{reading-none, IsReading}
-use Rattle.snapshots.proofs.SpeedLemmas.{speed-here, speed_before-all, speed_since-more}
-use Rattle.snapshots.proofs.TrackLemmas.{box_before-all, box_before-more}
+use Rattle.log_bounds.proofs.SpeedLemmas.{speed-here, speed_before-all, speed_since-more}
+use Rattle.log_bounds.proofs.BoxLemmas.{box_before-all, box_before-more}
 use Rattle.snapshots.proofs.logs.read_log.Given.{Over}
 use Rattle.snapshots.proofs.logs.read_log.Goals as goal
 use Rattle.snapshots.proofs.logs.read_log.Goals.{After-next-entry}
@@ -30,7 +30,7 @@ loop-place-init g c = record {
   reading = reading-none c.args.frame.now c.args.ahead.now.rules c.args.block.now.cell
       (block_log c.args.ahead.now.rules c.args.block.now) c.requires.cell;
   fastest = omega arith;
-  boxed = c.of-area.ensures;
+  boxed = c.of.ensures;
   at = omega (arith, c.requires.at);
   read = record { rules_are = refl; end_is = refl; within = c.requires.read; reads = omega arith };
 }
@@ -59,15 +59,15 @@ loop-place-preserved g c =
           place.invariant.reading
           (omega (arith, c.loop-place-test.true, length-block_log c.args.ahead.now.rules block c.requires.log)) entry its x y c.from-duration.result (sym c.if-passes_grid.false ∙ c.passes_grid.ensures) c.next-entry.ensures.reach
           (omega (arith, ints)) (omega (arith, ints)) c.from-duration.ensures;
-      fastest = speed_since-more c.args.ahead.now.rules block.cell log c.args.fastest place.place place.speed
-          (hull_speed block.cell place.cell place.duration entry.hull) c.raised-speed.result c.raised-speed.ensures
+      fastest = speed_since-more c.args.ahead.now.rules block.cell log c.args.fastest place.place place.bounds.speed
+          (hull_speed block.cell place.cell place.duration entry.hull) c.with-bounds.result.speed c.with-bounds.ensures.speed
           place.invariant.fastest
           (speed-here c.args.ahead.now.rules block.cell log place.place place.cell place.duration entry
           (hull_speed block.cell place.cell place.duration entry.hull) refl place.invariant.reading.stands
           place.invariant.reading.lasted its);
-      boxed = box_before-more c.args.ahead.now.rules block.cell log place.place place.cell entry place.area
-          c.with_hull-area.result
-          c.with_hull-area.ensures place.invariant.boxed place.invariant.reading.stands its;
+      boxed = box_before-more c.args.ahead.now.rules block.cell log place.place place.cell entry place.bounds.area
+          c.with-bounds.result.area
+          c.with-bounds.ensures.area place.invariant.boxed place.invariant.reading.stands its;
       at = omega (arith, c.next-entry.ensures.place, place.invariant.at);
       read = record {
         rules_are = c.next-entry.ensures.rules ∙ place.invariant.read.rules_are;

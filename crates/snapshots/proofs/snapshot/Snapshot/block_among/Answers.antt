@@ -36,3 +36,7 @@ returns-clause-value g c =
     (ap (λ xs. get_or xs c.at-rank.result 0) c.requires.present
     ∙ first_ones-at view.parts.present (length view.parts.perm) c.at-rank.result 0 within)
     ∙ ap (λ r. block_with view (select_of view.parts.present (r + 1)) r c.args.place) rank
+
+pub returns-clause-rank : goal.returns-clause-rank
+returns-clause-rank g c =
+    c.at-rank.ensures.value ∙ ap (λ perm. slice_index perm c.args.place) c.blocks-2.ensures.blocks.perm

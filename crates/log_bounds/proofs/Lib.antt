@@ -1,0 +1,6 @@
+-- In reading order.
+pub mod LogLemmas
+pub mod SpeedLemmas
+pub mod BoxLemmas
+pub mod BoundsLemmas
+mod Examples

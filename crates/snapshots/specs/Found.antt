@@ -1,0 +1,21 @@
+-- The blocks of a period as they are found: in leaf order, each with its place by object.
+use Rattle.std.specs.Prelude.{◌≡◌, ℕ, ◌<◌, List, length, map, slice_index, slice_index_or}
+use Rattle.snapshots.specs.Sound.{IsSnapshot}
+use Rattle.snapshots.specs.TrackTree.{morton_of_block}
+use Rattle.snapshots.specs.Tracks.{blocks_by_leaf}
+use Rattle.snapshots.specs.View.{SnapshotView}
+use Rattle.snapshots.specs.declared.anchored.Anchored.{Anchored}
+use Rattle.snapshots.specs.declared.finding.FoundBlocks.{FoundBlocks}
+
+-- these are the blocks of a snapshot
+pub record AreFound (view : SnapshotView) (found : FoundBlocks) : Type 0 where
+  pub snapshot : IsSnapshot view
+  pub blocks_are : found.by_leaf.items ≡ blocks_by_leaf view
+  pub codes_are : found.codes.items ≡ map (morton_of_block view.frame) (blocks_by_leaf view)
+  pub ranks_are : found.ranks.items ≡ view.parts.perm
+
+-- the first of some blocks stand in a table, each at the place that is given for it
+pub record ArePut (places : List ℕ) (blocks : List Anchored) (count : ℕ) (table : List Anchored) : Type 0 where
+  pub long : length table ≡ length places
+  pub put : (k : ℕ) (d : Anchored) → k < count
+      → slice_index_or table (slice_index places k) d ≡ slice_index_or blocks k d

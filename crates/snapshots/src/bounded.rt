@@ -1,0 +1,74 @@
+ghost use Rattle.std.specs.Prelude.{◌≡◌, ◌+◌, ◌≤◌, fold, length, map, max, All, IfOk, OnOk};
+ghost use Rattle.track_types.specs.Boxes.{moved_box};
+ghost use Rattle.track_types.specs.Near.{IsNear};
+ghost use Rattle.box_tree.specs.Boxes.{IsFrom};
+ghost use Rattle.rule_store.specs.View.{RulesView};
+ghost use Rattle.snapshots.specs.Bounded.{blocks_bounds};
+ghost use Rattle.snapshots.specs.IndexCost.{blocks_reads};
+ghost use Rattle.snapshots.specs.Sound.{IsSnapshot};
+ghost use Rattle.snapshots.specs.Speed.{blocks_speed};
+ghost use Rattle.snapshots.specs.TrackTree.{IsKept};
+ghost use Rattle.snapshots.specs.Tracks.{blocks_by_leaf};
+ghost use Rattle.snapshots.specs.View.{all_blocks};
+
+use crate::finding::find_blocks;
+use crate::judged::Judged;
+use crate::keeping::keep_tracks;
+use crate::snapshot::Snapshot;
+use log_bounds::PackedBounds;
+use std::alloc::Global;
+use std::sync::ledger::Ledger;
+use step_count::Steps;
+use track_types::{Cell, CellBox, Memory};
+
+/// Finds by what bounds the logs of a period's blocks, which have no flaw, what is kept of the period. The bounds are
+/// given by object, and their cells are counted from the base of the grid. It reads no symbol, and what leads to the
+/// blocks.
+pub fn keep_bounded<L: Ledger>(
+    alloc: Global,
+    snapshot: &Snapshot,
+    bounds: &[PackedBounds],
+    steps: &mut Steps<L>,
+) -> Result<Judged, Memory>
+    requires { length bounds.now ≡ length (all_blocks snapshot.now) }
+    ensures snapshot { OnOk result (IsSnapshot snapshot.now) }
+    ensures speed { IfOk result (λ judged. (rules : RulesView)
+        → bounds.now ≡ blocks_bounds rules snapshot.now
+        → judged.speed ≡ blocks_speed rules snapshot.now) }
+    ensures tracks { IfOk result (λ judged. (rules : RulesView)
+        → bounds.now ≡ blocks_bounds rules snapshot.now
+        → IsKept snapshot.now.frame rules (blocks_by_leaf snapshot.now) judged.tracks) }
+    ensures cost { steps.new ≤ steps.old + blocks_reads snapshot.now }
+{
+    let found = find_blocks(alloc, snapshot, steps)?;
+    let areas = areas_of(alloc, bounds, snapshot.frame().base)?;
+    let tracks = keep_tracks(alloc, snapshot, &found, &areas)?;
+    let speed = greatest_speed(bounds);
+    Ok(Judged { speed, tracks })
+}
+
+// The areas that some bounds have from the base of a grid on.
+fn areas_of(alloc: Global, bounds: &[PackedBounds], base: Cell) -> Result<Vec<CellBox>, Memory>
+    requires column { IsNear base.x }
+    requires line { IsNear base.y }
+    ensures ok { IfOk result (λ areas.
+        areas.items ≡ map (λ log. moved_box base log.area) bounds.now) }
+    ensures from { IfOk result (λ areas. All (IsFrom base) areas.items) }
+{
+    let mut areas = Vec::with_capacity(alloc, bounds.len())?;
+    for log in bounds {
+        areas.push(log.unpack().area.moved(base))?;
+    }
+    Ok(areas)
+}
+
+// The greatest speed of some bounds, and 0 where there are none.
+fn greatest_speed(bounds: &[PackedBounds]) -> u64
+    ensures { result ≡ fold max 0 (map (λ log. log.speed) bounds.now) }
+{
+    let mut greatest = 0;
+    for log in bounds {
+        greatest = greatest.max(log.unpack().speed);
+    }
+    greatest
+}
