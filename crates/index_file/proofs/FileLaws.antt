@@ -59,14 +59,14 @@ parts_in-again parts formed = elim (cases_lt parts.frame.version 3) [
 ]
 
 -- what was answered to bytes is as reading says
-pub given_takes : (bytes : List ℕ) (answer : Result Parts FormatFault) → IsBytes bytes → Gives (λ parts. parts) answer (parts_in bytes)
-    → IfOk answer (λ parts. IsFormed parts × (bytes ≡ file_bytes parts))
-given_takes bytes (Ok parts) fits given = of_ok (parts_in bytes) (parts_in-takes bytes fits) given
+pub given_takes : {X : Type 0} (view : X → Parts) (bytes : List ℕ) (answer : Result X FormatFault) → IsBytes bytes
+    → Gives view answer (parts_in bytes) → IfOk answer (λ x. IsFormed (view x) × (bytes ≡ file_bytes (view x)))
+given_takes view bytes (Ok x) fits given = of_ok (parts_in bytes) (parts_in-takes bytes fits) given
   where
-    of_ok : (read : Result Parts Flaw) → IfOk read (λ parts. IsFormed parts × (bytes ≡ file_bytes parts)) → read ≡ Ok parts
-        → IsFormed parts × (bytes ≡ file_bytes parts)
+    of_ok : (read : Result Parts Flaw) → IfOk read (λ parts. IsFormed parts × (bytes ≡ file_bytes parts)) → read ≡ Ok (view x)
+        → IsFormed (view x) × (bytes ≡ file_bytes (view x))
     of_ok read holds is = rw is at holds
-given_takes bytes (Err fault) fits given = tt
+given_takes view bytes (Err fault) fits given = tt
 
 -- the file of parts in the newest version is that of their outline
 pub file_bytes-newest : (parts : Parts) → IsNewest parts → file_bytes parts ≡ outline_bytes (outline_of parts)

@@ -1,10 +1,13 @@
 -- The bytes of an index file, and the parts that bytes hold, in each version of the format.
 use Rattle.std.specs.Prelude.{◌≡◌, ℕ, false, if◌then◌else◌, List, length, Result, Ok}
+use Rattle.std.specs.Global.{Vec}
 use Rattle.track_types.specs.Shape.{IsShaped}
 use Rattle.track_types.specs.declared.flaw.Flaw.{Flaw}
 use Rattle.track_types.specs.declared.limit.TheConstants.{MAX_VERSION}
 use Rattle.track_types.specs.declared.parts.Parts.{Parts}
 use Rattle.rule_order.specs.Order.{IsSettled}
+use Rattle.log_bounds.specs.declared.bounds.LogBounds.{LogBounds}
+use Rattle.snapshots.specs.Bounded.{AreBounds}
 use Rattle.snapshots.specs.SoundParts.{IsValid}
 use Rattle.index_format.specs.Fields.{◌>>=◌}
 use Rattle.index_format.specs.Spelling.{bytes_of_parts, says_symbols}
@@ -44,3 +47,8 @@ pub record IsFormed (parts : Parts) : Type 0 where
 pub record IsNewest (parts : Parts) : Type 0 where
   pub newest : parts.frame.version ≡ MAX_VERSION
   pub ordered : IsOrdered parts
+
+-- parts are those of an index, and the bounds are those of its logs, by period
+pub record AreBounded (parts : Parts) (bounds : List (Vec LogBounds)) : Type 0 where
+  pub valid : IsValid parts
+  pub bounds_are : AreBounds parts bounds

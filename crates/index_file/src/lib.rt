@@ -6,4 +6,4 @@
 
 mod file;
 
-pub use file::{decode, encode};
+pub use file::{FileParts, decode, decode_bounded, encode};

@@ -20,7 +20,7 @@ use Rattle.index_format.specs.Answers.{IsFormatFault}
 use Rattle.index_format.specs.Elements.{Element, wide_at}
 use Rattle.index_format.specs.Fields.{◌>>=◌, flaw_at}
 use Rattle.index_format.specs.OutlineBlocks.{InLog, entry_in, entry_width, is_in_grid, log_in, stays_in}
-use Rattle.index_format.specs.BlockSteps.{IsWholeTable, log_after, log_past, log_with}
+use Rattle.index_format.specs.BlockSteps.{IsWholeTable, log_after, log_moved, log_past, log_with}
 use Rattle.rule_store.specs.declared.entry_table.EntryTable.{EntryTable}
 use Rattle.index_format.specs.declared.outline.entries.LogRest.{LogRest}
 use Rattle.index_format.proofs.AnchorLemmas.{bind-fault, bind-ok, fault-of}
@@ -49,7 +49,7 @@ module _ (height : ℕ) (log : LogRest) (entry : Entry) where
 
   -- one that fits
   pub log_past-fits : stays_in height log.cell entry.hull ≡ true → entry.duration ≤ log.rest
-      → log_past height log entry ≡ Ok (record { rest = log.rest - entry.duration; cell = moved log.cell (entry.dx, entry.dy) })
+      → log_past height log entry ≡ Ok (log_moved log entry)
   unfolding log_past
   log_past-fits stays fits =
       let test : nat_lt log.rest entry.duration ≡ false = grind (arith, nat_tests, fits) in

@@ -32,6 +32,7 @@ mod EntryLemmas
 mod BlockLemmas
 mod BlockPuttingLemmas
 mod BlockOrderLemmas
+mod BoundedLemmas
 pub mod EntryLaws
 pub mod BlockLaws
 pub mod EntryOnlyLaws

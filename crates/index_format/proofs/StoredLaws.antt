@@ -52,21 +52,21 @@ stored_in-again (Outline outline) is =
     let silent = le-ltb outline.frame.version 3 (omega (arith, is.version)) in
     rw (header_at-again (outline_header outline) _ (outline_header-is outline is), silent, outline_after-again outline is) refl
 
--- what was answered to bytes is as reading says
-pub given_takes : (bytes : List ℕ) (answer : Result Stored FormatFault) → IsBytes bytes → Gives (λ stored. stored) answer (stored_in bytes)
-    → IfOk answer (λ stored. IsStored stored × (bytes ≡ stored_bytes stored))
-given_takes bytes (Ok stored) fits given = of_ok (stored_in bytes) (stored_in-takes bytes fits) given
+-- what was answered to bytes, seen by view, is as reading says
+pub given_takes : {X : Type 0} (view : X → Stored) (bytes : List ℕ) (answer : Result X FormatFault) → IsBytes bytes
+    → Gives view answer (stored_in bytes) → IfOk answer (λ x. IsStored (view x) × (bytes ≡ stored_bytes (view x)))
+given_takes view bytes (Ok x) fits given = of_ok (view x) (stored_in bytes) (stored_in-takes bytes fits) given
   where
-    of_ok : (read : Result Stored Flaw) → IfOk read (λ stored. IsStored stored × (bytes ≡ stored_bytes stored)) → read ≡ Ok stored
-        → IsStored stored × (bytes ≡ stored_bytes stored)
-    of_ok read holds is = rw is at holds
-given_takes bytes (Err fault) fits given = tt
+    of_ok : (stored : Stored) (read : Result Stored Flaw) → IfOk read (λ stored. IsStored stored × (bytes ≡ stored_bytes stored))
+        → read ≡ Ok stored → IsStored stored × (bytes ≡ stored_bytes stored)
+    of_ok stored read holds is = rw is at holds
+given_takes view bytes (Err fault) fits given = tt
 
 -- what a file is: reading gives what is stored if and only if it has the form of an index and the bytes are its
 pub stored_in-exactly : (bytes : List ℕ) → IsBytes bytes → (stored : Stored)
     → (stored_in bytes ≡ Ok stored → IsStored stored × (bytes ≡ stored_bytes stored))
     × (IsStored stored → bytes ≡ stored_bytes stored → stored_in bytes ≡ Ok stored)
 stored_in-exactly bytes fits stored = (
-  λ read. given_takes bytes (Ok stored) fits read,
+  λ read. given_takes (λ stored. stored) bytes (Ok stored) fits read,
   λ is spelled. ap stored_in spelled ∙ stored_in-again stored is,
 )

@@ -20,6 +20,8 @@ use Rattle.index_format.specs.Elements.{Element, told_at}
 use Rattle.index_format.specs.Fields.{◌>>=◌, flaw_at}
 use Rattle.index_format.specs.declared.outline.OutlineBlock.{OutlineBlock}
 use Rattle.index_format.specs.OutlineBlocks.{InLog, Told, anchor_bits, anchor_instant, entry_width, is_in_grid, stays_in, when_bits}
+use Rattle.index_format.specs.declared.outline.blocks.Progress.{Progress}
+use Rattle.index_format.specs.declared.outline.blocks.ReadBlocks.{ReadBlocks}
 use Rattle.index_format.specs.declared.outline.entries.LogRest.{LogRest}
 
 -- the table has the entries of all symbols of the rules
@@ -35,17 +37,30 @@ IsKept height last = IfSome last (λ cell. is_in_grid height cell ≡ true)
 abbrev pub log_with : List ℕ → LogRest → InLog
 log_with symbols log = record { symbols = symbols; rest = log.rest; cell = log.cell }
 
+-- where an entry that fits leads from a place of a log
+abbrev pub log_moved : LogRest → Entry → LogRest
+log_moved log entry = record { rest = log.rest - entry.duration; cell = moved log.cell (entry.dx, entry.dy) }
+
 -- where an entry leads from a place of a log, or what is wrong with it
 unfoldable pub log_past : ℕ → LogRest → Entry → Result LogRest Kind
 log_past height log entry =
     if not (stays_in height log.cell entry.hull) then Err OffGrid
     else if nat_lt log.rest entry.duration then Err Duration
-    else Ok (record { rest = log.rest - entry.duration; cell = moved log.cell (entry.dx, entry.dy) })
+    else Ok (log_moved log entry)
 
 -- where a symbol leads from a place of a log, or what is wrong with it
 unfoldable pub log_after : ℕ → RulesView → LogRest → ℕ → Result LogRest Kind
 log_after height view log symbol =
     if nat_le (symbols_in view) symbol then Err Symbol else log_past height log (entry_of view symbol)
+
+-- what is told by what was read so far
+abbrev pub told_of : Progress → Told
+told_of progress = record {
+  blocks = progress.blocks.items;
+  symbols = progress.symbols.items;
+  next = progress.next;
+  last = progress.last;
+}
 
 -- nothing is told
 abbrev pub nothing_told : Told
@@ -60,8 +75,8 @@ next_anchor_in frame index next bits = do
       else Ok (Some (next + (gap.0 - 1)), gap.1)
 
 -- the blocks and symbols of what was answered, and the bits that are left, are what reading gives, unless memory was refused
-abbrev pub GivesBlocks : Result (List OutlineBlock × List ℕ) FormatFault → List Bool → Element Told → Type 0
-GivesBlocks (Ok x) left read = (told : Told) × (read ≡ Ok (told, left)) × (told.blocks ≡ x.0) × (told.symbols ≡ x.1)
+abbrev pub GivesBlocks : Result ReadBlocks FormatFault → List Bool → Element Told → Type 0
+GivesBlocks (Ok x) left read = (told : Told) × (read ≡ Ok (told, left)) × (told.blocks ≡ x.blocks) × (told.symbols ≡ x.symbols)
 GivesBlocks (Err fault) left read = IsFormatFault read fault
 
 -- symbols of the rules, which lead from a cell of the grid only to cells of it

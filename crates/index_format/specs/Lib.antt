@@ -14,4 +14,6 @@ pub mod OutlineBlocks
 pub mod OutlineFile
 pub mod IsOutline
 pub mod BlockSteps
+pub mod OutlineBounds
+pub mod LogReading
 pub mod Stored

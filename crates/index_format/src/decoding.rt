@@ -3,9 +3,11 @@ ghost use Rattle.track_types.specs.declared.limit.TheConstants.{MAX_INDEX};
 ghost use Rattle.index_format.specs.Headers.{IsHeader};
 ghost use Rattle.index_format.specs.declared.stored.Stored as declared;
 ghost use Rattle.index_format.specs.Answers.{Gives, IsFormatFault};
+ghost use Rattle.index_format.specs.OutlineBounds.{IfOutline, bounds_in};
 ghost use Rattle.index_format.specs.Reading.{parts_after};
 ghost use Rattle.index_format.specs.Stored.{stored_after, stored_in, stored_bytes, IsStored};
 
+use crate::decoded::Decoded;
 use crate::header::{Header, header_of, says_symbols};
 use crate::lists::{alphabet_of, objects_of, rules_of};
 use crate::log::log_of;
@@ -16,44 +18,57 @@ use crate::stored::Stored;
 use std::alloc::Global;
 use track_types::{FormatFault, Kind, Parts, Section};
 
-/// What the bytes of an index file store. There are at most `MAX_INDEX` bytes, and all are read.
+/// What the bytes of an index file store, and what bounds the logs of an outline. There are at most `MAX_INDEX` bytes, and all
+/// are read.
 ///
 /// `FormatFault::Flaw` is the first flaw from the front. All that has the form of an index is decoded from its own bytes
 /// alone. Memory is taken only as the bytes warrant: a list is made as long as the bytes that are left can hold, or grows as
-/// its elements are read.
-pub fn decode(alloc: Global, bytes: &[u8]) -> Result<Stored, FormatFault>
+/// its elements are read. So does the list of bounds, which takes 20 bytes for each block.
+pub fn decode(alloc: Global, bytes: &[u8]) -> Result<Decoded, FormatFault>
     requires { length bytes.now ≤ MAX_INDEX }
-    ensures ok { IfOk result (λ stored. stored_in bytes.now ≡ Ok stored) }
-    ensures formed { IfOk result (λ stored. IsStored stored) }
-    ensures spelled { IfOk result (λ stored. bytes.now ≡ stored_bytes stored) }
+    ensures ok { IfOk result (λ decoded. stored_in bytes.now ≡ Ok decoded.stored) }
+    ensures formed { IfOk result (λ decoded. IsStored decoded.stored) }
+    ensures spelled { IfOk result (λ decoded. bytes.now ≡ stored_bytes decoded.stored) }
     ensures one { (stored : declared.Stored) → IsStored stored → bytes.now ≡ stored_bytes stored
-        → Gives (λ found. found) result (Ok stored) }
+        → Gives (λ decoded. decoded.stored) result (Ok stored) }
+    ensures bounds { IfOk result (λ decoded. IfOutline decoded.stored
+        (λ outline. decoded.bounds.items ≡ bounds_in outline)) }
     ensures flaw { IfErr result (IsFormatFault (stored_in bytes.now)) }
 {
-    stored_of(alloc, bytes)
+    decoded_of(alloc, bytes)
 }
 
 // What the bytes store, from the first byte to the last.
 #[tactic(auto, unfolding(crate::specs::Stored::stored_in))]
-fn stored_of(alloc: Global, bytes: &[u8]) -> Result<Stored, FormatFault>
-    ensures { Gives (λ stored. stored) result (stored_in bytes.now) }
+fn decoded_of(alloc: Global, bytes: &[u8]) -> Result<Decoded, FormatFault>
+    ensures exact { Gives (λ decoded. decoded.stored) result (stored_in bytes.now) }
+    ensures bounds { IfOk result (λ decoded. IfOutline decoded.stored
+        (λ outline. decoded.bounds.items ≡ bounds_in outline)) }
 {
     let (header, rest) = header_of(bytes)?;
-    stored_after(alloc, header, rest)
+    decoded_after(alloc, header, rest)
 }
 
 // What all bytes after the header store.
 #[tactic(auto, unfolding(crate::specs::Stored::stored_after))]
-fn stored_after(alloc: Global, header: Header, bytes: &[u8]) -> Result<Stored, FormatFault>
+fn decoded_after(alloc: Global, header: Header, bytes: &[u8]) -> Result<Decoded, FormatFault>
     requires { IsHeader header }
-    ensures { Gives (λ stored. stored) result (stored_after header bytes.now) }
+    ensures exact { Gives (λ decoded. decoded.stored) result (stored_after header bytes.now) }
+    ensures bounds { IfOk result (λ decoded. IfOutline decoded.stored
+        (λ outline. decoded.bounds.items ≡ bounds_in outline)) }
 {
     if says_symbols(header.frame.version) {
         let parts = parts_after(alloc, header, bytes)?;
-        return Ok(Stored::Parts(parts));
+        return Ok(Decoded {
+            stored: Stored::Parts(parts),
+            bounds: Vec::new(alloc),
+        });
     }
-    let outline = outline_after(alloc, header, bytes)?;
-    Ok(Stored::Outline(outline))
+    let (outline, bounds) = outline_after(alloc, header, bytes)?;
+    Ok(Decoded {
+        stored: Stored::Outline(outline),
+        bounds,
+    })
 }
 
 // The parts that all bytes after the header hold, in version 1 or 2.

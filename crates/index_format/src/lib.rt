@@ -1,5 +1,5 @@
 //! The bytes of an index file, in the three versions of the format. `decode` reads what a file stores,
-//! or names the first flaw.
+//! or names the first flaw. Of a file of version 3 it also answers what bounds the logs.
 //!
 //! A file of version 1 or 2 stores the parts of an index, and `encode` writes them. A file of version
 //! 3 stores an outline, from which the parts follow, and `encode_outline` writes it. All that has the
@@ -8,6 +8,7 @@
 //! A flaw is named by its section, period, index and kind.
 #![tactic(auto)]
 
+mod decoded;
 mod decoding;
 mod encoding;
 mod fields;
@@ -26,6 +27,7 @@ mod stored;
 mod unpacking;
 mod width;
 
+pub use decoded::Decoded;
 pub use decoding::decode;
 pub use encoding::encode;
 pub use outline::{BlockList, Outline, OutlineBlock, encode_outline};

@@ -2,6 +2,7 @@ mod anchors;
 mod ascending;
 mod block_putting;
 mod blocks;
+mod bounded_log;
 mod ending;
 mod entries;
 mod gaps;

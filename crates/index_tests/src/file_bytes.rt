@@ -4,7 +4,7 @@ ghost use Rattle.index_format.specs.Stored.{IsStored};
 use crate::files::{
     FILE, NEW_FILE, PACKED_FILE, PAIR_FILE, four_billion_rows, four_billion_rows_packed,
 };
-use index_format::{FormatFault, OutlineBlock, Stored, decode, encode, encode_outline};
+use index_format::{Decoded, FormatFault, OutlineBlock, Stored, decode, encode, encode_outline};
 use std::alloc::Global;
 use std::test::Fail;
 use track_types::{Memory, Parts, PeriodParts};
@@ -16,7 +16,8 @@ fn read(alloc: Global, bytes: &[u8]) -> Result<Stored, FormatFault>
     if bytes.len() > 1 << 30 {
         return Err(FormatFault::Memory);
     }
-    decode(alloc, bytes)
+    let Decoded { stored, .. } = decode(alloc, bytes)?;
+    Ok(stored)
 }
 
 // The bytes of what is stored.

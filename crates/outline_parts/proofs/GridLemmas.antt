@@ -21,7 +21,7 @@ use Rattle.rule_store.specs.Log.{log_values}
 use Rattle.rule_store.specs.View.{RulesView}
 use Rattle.rule_store.proofs.CellLemmas.{cells_along-append, present-moved}
 use Rattle.index_format.specs.OutlineBlocks.{is_in_grid}
-use Rattle.snapshots.specs.JoinFlaws.{cell_after, cell_before}
+use Rattle.log_bounds.specs.Bounds.{cell_after, cell_before}
 use Rattle.snapshots.specs.SoundParts.{IsInGridAt}
 use Rattle.snapshots.proofs.ReachLemmas.{IsCovered, covered-along, hull_of-entry, present-none}
 use Rattle.outline_parts.specs.PartsOfOutline.{cell_from}

@@ -11,6 +11,7 @@ pub mod AgainLemmas
 pub mod LogLemmas
 pub mod ValidLemmas
 pub mod PlacedLemmas
+pub mod RowMoreLemmas
 pub mod RowLemmas
 pub mod RankLemmas
 pub mod PeriodAgainLemmas
@@ -23,4 +24,5 @@ pub mod DescentLemmas
 pub mod ScatterLemmas
 pub mod ObjectLemmas
 pub mod ByObjectLemmas
+pub mod BoundsLemmas
 mod Examples

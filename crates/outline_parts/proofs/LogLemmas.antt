@@ -20,14 +20,15 @@ use Rattle.rule_store.proofs.CellLemmas.{present-moved}
 use Rattle.index_format.specs.IsOutline.{IsOutline}
 use Rattle.index_format.specs.OutlineBlocks.{is_in_grid}
 use Rattle.index_format.specs.declared.outline.Outline.{Outline}
-use Rattle.snapshots.specs.JoinFlaws.{cell_before, duration_of_log, instants_after}
+use Rattle.log_bounds.specs.Bounds.{cell_before, duration_of_log}
+use Rattle.snapshots.specs.JoinFlaws.{instants_after}
 use Rattle.snapshots.specs.Parts.{block_log, rules_in, snapshot_in, start_in}
 use Rattle.snapshots.specs.SoundParts.{AreSoundLogs, IsSoundLog}
 use Rattle.snapshots.specs.View.{all_blocks, block_of, view_with}
 use Rattle.snapshots.specs.declared.anchored.Anchored.{Anchored}
 use Rattle.chart_parts.specs.PeriodWith.{period_with}
 use Rattle.chart_parts.proofs.AlongLemmas.{IsAlong, IsInFrame, IsInGridAt-along}
-use Rattle.chart_parts.proofs.SoundLogLemmas.{IsAlong-place}
+use Rattle.chart_parts.proofs.LogLemmas.{IsAlong-place}
 use Rattle.outline_parts.specs.PartsOfOutline.{cell_from, parts_of_outline}
 use Rattle.outline_parts.proofs.BlockLemmas.{IsTold, outline_view, told-block, told_at}
 use Rattle.outline_parts.proofs.OutlineLemmas.{Logged, are-mine, each-mine, heads_of, in_grid, its, lengths_of, no_block, object_in, outline_rules, period_in}

@@ -22,7 +22,7 @@ use Rattle.index_format.specs.IsOutline.{AreInOrder, IsBlock, IsOutline, all_fol
 use Rattle.index_format.specs.OutlineBlocks.{is_in_grid}
 use Rattle.index_format.specs.OutlineFile.{frame_rules}
 use Rattle.index_format.specs.declared.outline.OutlineBlock.{OutlineBlock}
-use Rattle.snapshots.specs.JoinFlaws.{duration_of_log}
+use Rattle.log_bounds.specs.Bounds.{duration_of_log}
 use Rattle.snapshots.specs.Parts.{log_in, rules_in}
 use Rattle.snapshots.specs.Sound.{IsBlock as IsOfSnapshot}
 use Rattle.snapshots.specs.SoundParts.{IsSoundLog, IsValid}

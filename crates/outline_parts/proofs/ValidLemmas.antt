@@ -21,7 +21,7 @@ use Rattle.snapshots.specs.Sound.{IsSoundPeriod}
 use Rattle.snapshots.specs.SoundParts.{AreSoundRules, IsSound, IsValid}
 use Rattle.snapshots.proofs.SoundPartsLemmas.{AreSoundRules-flawless}
 use Rattle.chart_parts.specs.PeriodWith.{period_of_blocks}
-use Rattle.chart_parts.proofs.ShapeLemmas.{value-long}
+use Rattle.chart_parts.proofs.RuleLemmas.{value-long}
 use Rattle.outline_parts.specs.PartsOfOutline.{headed, parts_of_outline}
 use Rattle.outline_parts.proofs.LogLemmas.{AreSoundLogs-outline, are-of_period, snapshot-outline}
 use Rattle.outline_parts.proofs.OutlineLemmas.{are-mine, heads-mine, heads_of, lengths-mine, lengths_of}

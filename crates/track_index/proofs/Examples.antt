@@ -26,7 +26,8 @@ use Rattle.rule_store.specs.Nodes.{block_budget, nodes_in, opened_count, parsed}
 use Rattle.snapshots.specs.View.{all_blocks}
 use Rattle.track_types.specs.Flaws.{flaw_in}
 use Rattle.snapshots.specs.IndexCost.{blocks_reads, open_cost, path_cost, position_cost}
-use Rattle.snapshots.specs.JoinFlaws.{blocks_flaw, cell_after, is_off_grid, duration_of_log, log_flaw, logs_flaw, off_grid_at}
+use Rattle.log_bounds.specs.Bounds.{cell_after, duration_of_log}
+use Rattle.snapshots.specs.JoinFlaws.{blocks_flaw, is_off_grid, log_flaw, logs_flaw, off_grid_at}
 use Rattle.snapshots.specs.Parts.{start_in}
 use Rattle.track_index.specs.Path.{cost_until}
 use Rattle.track_index.specs.CheckFlaws.{check_flaw, grammar_flaw, lengths_flaw, snapshots_flaw}

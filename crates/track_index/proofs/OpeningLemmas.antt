@@ -28,6 +28,8 @@ use Rattle.snapshots.specs.IndexCost.{open_cost}
 use Rattle.index_format.specs.Answers.{IsFormatFault}
 use Rattle.index_file.specs.File.{parts_in}
 use Rattle.track_index.specs.Opening.{bytes_cost, cost_after, first_flaw, flaw_after}
+use Rattle.track_index.specs.Judged.{AreJudged}
+use Rattle.track_index.specs.declared.opening.JudgedParts.{JudgedParts}
 use Rattle.track_index.specs.CheckFlaws.{check_flaw, grammar_flaw, lengths_flaw, rule_flaw_of, snapshots_flaw, snapshots_with, total_flaw, AreShapedPeriods}
 
 -- the fault of the first of two
@@ -178,31 +180,26 @@ pub snapshots_in-read : (parts : Parts) (objects : List ℕ) → objects ≡ par
 unfolding start_in
 snapshots_in-read parts objects same = rw same refl
 
--- what is known once rules, total and periods were judged
-pub record AreJudged (parts : Parts) (rules : RulesView) (snaps : List SnapshotView) : Type 0 where
-  pub rules_are : rules ≡ rules_in parts
-  pub snaps_are : snaps ≡ snapshots_in parts
-  pub flawless : grammar_flaw (rules_in parts) ≡ None
-  pub total : total_flaw parts ≡ None
-  pub snapshots : snapshots_flaw (snapshots_in parts) ≡ None
-
-module _ (parts : Parts) (shaped : IsShaped parts) (rules : RulesView) (snaps : List SnapshotView)
-    (are : AreJudged parts rules snaps) where
+module _ (parts : Parts) (shaped : IsShaped parts) (judged : JudgedParts) (are : AreJudged parts judged) where
   -- what is joined are the parts
-  pub joined-parts : join_of parts.frame parts.objects rules snaps ≡ parts
-  joined-parts = join_of-parts parts shaped rules snaps are.rules_are are.snaps_are
+  pub joined-parts : join_of judged.frame judged.objects judged.rules judged.snaps.items ≡ parts
+  joined-parts =
+      ap (λ frame. join_of frame judged.objects judged.rules judged.snaps.items) are.frame_is
+      ∙ ap (λ objects. join_of parts.frame objects judged.rules judged.snaps.items) are.objects_are
+      ∙ join_of-parts parts shaped judged.rules judged.snaps.items are.rules_are are.snaps_are
 
-  pub AreOf-joined : AreOf (join_of parts.frame parts.objects rules snaps) rules snaps
-  AreOf-joined = subst (λ p. AreOf p rules snaps) (sym joined-parts)
-      (AreOf-parts parts shaped rules snaps are.rules_are are.snaps_are are.total)
+  pub AreOf-joined : AreOf (join_of judged.frame judged.objects judged.rules judged.snaps.items) judged.rules judged.snaps.items
+  AreOf-joined = subst (λ p. AreOf p judged.rules judged.snaps.items) (sym joined-parts)
+      (AreOf-parts parts shaped judged.rules judged.snaps.items are.rules_are are.snaps_are are.total)
 
   -- the fault of its logs is that of the parts
   pub fault-joined : (found : FormatFault)
-      → IsFormatFaultFor (logs_flaw (join_of parts.frame parts.objects rules snaps)) found → IsFormatFaultFor (check_flaw parts) found
+      → IsFormatFaultFor (logs_flaw (join_of judged.frame judged.objects judged.rules judged.snaps.items)) found
+      → IsFormatFaultFor (check_flaw parts) found
   fault-joined found is = fault-logs parts are.flawless are.total are.snapshots found
       (subst (λ p. IsFormatFaultFor (logs_flaw p) found) joined-parts is)
 
-  pub check_flaw-joined : logs_flaw (join_of parts.frame parts.objects rules snaps) ≡ None → check_flaw parts ≡ None
+  pub check_flaw-joined : logs_flaw (join_of judged.frame judged.objects judged.rules judged.snaps.items) ≡ None → check_flaw parts ≡ None
   check_flaw-joined none = check_flaw-judged parts are.flawless are.total are.snapshots
       (ap logs_flaw (sym joined-parts) ∙ none)
 

@@ -20,9 +20,10 @@ use Rattle.rule_store.specs.Expansion.{depth_in, expansion_of, values_of}
 use Rattle.rule_store.specs.Log.{block_stops, log_values, stops_after, stops_from}
 use Rattle.rule_store.specs.Nodes.{block_budget, nodes_in, opened_count, parsed}
 use Rattle.snapshots.specs.IndexCost.{path_cost, position_cost}
-use Rattle.snapshots.specs.JoinFlaws.{cell_after, duration_of_log}
+use Rattle.log_bounds.specs.Bounds.{cell_after, duration_of_log}
 use Rattle.snapshots.specs.Parts.{chart_in, rows_in, start_in, stops_in}
-use Rattle.snapshots.specs.Speed.{blocks_speed, log_speed}
+use Rattle.log_bounds.specs.Bounds.{log_speed}
+use Rattle.snapshots.specs.Speed.{blocks_speed}
 use Rattle.snapshots.specs.View.{all_blocks}
 use Rattle.interval_search.specs.Cost.{interval_cost}
 use Rattle.nearest_search.specs.Cost.{is_near_enough, nearest_cost, period_near_cost}

@@ -28,7 +28,7 @@ use Rattle.log_cursor.specs.Start.{start_at}
 use Rattle.log_cursor.specs.Walk.{at_rest, walk_from, WalkView}
 use Rattle.log_cursor.proofs.ExtentLemmas.{block_budget-until, reads_to-walk_from}
 use Rattle.snapshots.specs.IndexCost.{is_met, path_cost, period_cost, walk_cost}
-use Rattle.snapshots.specs.JoinFlaws.{duration_of_log}
+use Rattle.log_bounds.specs.Bounds.{duration_of_log}
 use Rattle.snapshots.specs.Parts.{anchored_at, end_in, first_in, index_in, log_in, rules_in, snapshot_in, stops_in}
 use Rattle.snapshots.specs.Sound.{IsBlock}
 use Rattle.snapshots.specs.SoundParts.{IsValid}

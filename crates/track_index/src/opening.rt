@@ -1,4 +1,4 @@
-ghost use Rattle.std.specs.Prelude.{◌≡◌, ◌+◌, ◌==◌, ◌<◌, ◌≤◌, length, None, Ok, Option, sum, IfErr, IfOk, OnOk};
+ghost use Rattle.std.specs.Prelude.{◌≡◌, ◌+◌, ◌==◌, ◌<◌, ◌≤◌, length, None, Ok, Option, sum, IfErr, IfOk, IfSome, OnOk};
 ghost use Rattle.std.specs.Prelude.{MatchOption};
 ghost use Rattle.std.specs.List.{sum_by};
 ghost use Rattle.track_types.specs.Flaws.{IsFormatFaultFor};
@@ -9,14 +9,17 @@ ghost use Rattle.snapshots.specs.Parts.{chart_in, symbols_of};
 ghost use Rattle.snapshots.specs.SoundParts.{IsValid};
 ghost use Rattle.chart_parts.specs.PartsOf.{parts_of};
 ghost use Rattle.index_format.specs.Answers.{Gives};
+ghost use Rattle.index_file.specs.File.{AreBounded};
 ghost use Rattle.track_types.specs.declared.limit.TheConstants.{MAX_INDEX, MAX_SYMBOLS};
 ghost use Rattle.track_types.specs.declared.parts.Parts.{Parts as WholeParts};
 ghost use Rattle.track_index.specs.Opening.{bytes_cost, first_flaw, IsFile};
 ghost use Rattle.track_index.specs.CheckFlaws.{check_flaw, lengths_flaw, snapshots_flaw, snapshots_with, AreShapedPeriods};
+ghost use Rattle.track_index.specs.Judged.{AreJudged};
 
 use crate::index::Index;
 use chart_parts::parts_of;
-use index_file::decode;
+use index_file::{FileParts, decode_bounded};
+use log_bounds::PackedBounds;
 use rule_store::RuleStore;
 use snapshots::{Header, Snapshot, Stores};
 use std::alloc::Global;
@@ -24,7 +27,7 @@ use std::rc::Rc;
 use std::sync::ledger::Ledger;
 use step_count::Steps;
 use track_types::{
-    Chart, Flaw, FormatFault, Frame, Kind, Memory, Parts, PeriodList, PeriodParts, Section,
+    Chart, Flaw, FormatFault, Frame, Kind, List32, Memory, Parts, PeriodList, PeriodParts, Section,
 };
 
 impl Index {
@@ -56,19 +59,55 @@ impl Index {
         ensures flaw { IfErr result (λ fault. IsFormatFaultFor (check_flaw parts) fault) }
         ensures cost { steps.new ≤ steps.old + open_cost parts }
     {
-        let Parts {
+        let JudgedParts {
             frame,
             objects,
-            alphabet,
             rules,
-            periods,
-            symbols,
-        } = parts;
-        let rules = RuleStore::check(alloc, alphabet, rules, symbols, frame.height, frame.period)?;
-        check_total(&frame, periods.as_slice(), rules.sizes().2)?;
-        let count = objects.as_slice().len() as u32;
-        let snaps = check_periods(alloc, &frame, count, periods)?;
+            snaps,
+        } = judged(alloc, parts)?;
         let stores = Stores::join(alloc, frame, objects, rules, snaps, steps)?;
+        Ok(Index { stores })
+    }
+
+    // The index of what a file holds. Parts whose bounds are known are those of an index, and their logs are not read again.
+    fn of_file<L: Ledger>(
+        alloc: Global,
+        read: FileParts,
+        steps: &mut Steps<L>,
+    ) -> Result<Index, FormatFault>
+        requires shaped { IsShaped read.parts }
+        requires bounds { IfSome read.bounds (λ bounds. AreBounded read.parts bounds.items) }
+        ensures ok { IfOk result (λ index. index ≡ read.parts) }
+        ensures exact { OnOk result (check_flaw read.parts ≡ None) }
+        ensures valid { OnOk result (IsValid read.parts) }
+        ensures flaw { IfErr result (λ fault. IsFormatFaultFor (check_flaw read.parts) fault) }
+        ensures cost { steps.new ≤ steps.old + open_cost read.parts }
+    {
+        let FileParts { parts, bounds } = read;
+        match bounds {
+            Some(bounds) => Ok(Index::of_bounded(alloc, parts, bounds, steps)?),
+            None => Index::check(alloc, parts, steps),
+        }
+    }
+
+    // The index of these parts, which are those of an index, by the bounds of their logs. `Memory` is its only refusal.
+    fn of_bounded<L: Ledger>(
+        alloc: Global,
+        parts: Parts,
+        bounds: Vec<Vec<PackedBounds>>,
+        steps: &mut Steps<L>,
+    ) -> Result<Index, Memory>
+        requires { AreBounded parts bounds.items }
+        ensures ok { IfOk result (λ index. index ≡ parts) }
+        ensures cost { steps.new ≤ steps.old + open_cost parts }
+    {
+        let JudgedParts {
+            frame,
+            objects,
+            rules,
+            snaps,
+        } = judged_valid(alloc, parts)?;
+        let stores = Stores::join_bounded(alloc, frame, objects, rules, snaps, bounds, steps)?;
         Ok(Index { stores })
     }
 
@@ -115,8 +154,8 @@ pub fn open<L: Ledger>(
     ensures cost { steps.new ≤ steps.old + bytes_cost bytes.now }
     ensures cost_opened { IfOk result (λ index. bytes_cost bytes.now ≡ open_cost index) }
 {
-    let parts = decode(alloc, bytes)?;
-    Index::check(alloc, parts, steps)
+    let read = decode_bounded(alloc, bytes)?;
+    Index::of_file(alloc, read, steps)
 }
 
 /// Opens the bytes of an index file as `open` does. The bytes are dropped after they are decoded, before
@@ -137,9 +176,60 @@ pub fn open_bytes<L: Ledger>(
     ensures cost { steps.new ≤ steps.old + bytes_cost bytes.items }
     ensures cost_opened { IfOk result (λ index. bytes_cost bytes.items ≡ open_cost index) }
 {
-    let parts = decode(alloc, bytes.as_slice())?;
+    let read = decode_bounded(alloc, bytes.as_slice())?;
     drop(bytes);
-    Index::check(alloc, parts, steps)
+    Index::of_file(alloc, read, steps)
+}
+
+/// What is judged of parts before their logs.
+#[derive(Drop)]
+pub(crate) struct JudgedParts {
+    /// The header.
+    pub(crate) frame: Frame,
+    /// The objects.
+    pub(crate) objects: List32,
+    /// The rules, with the symbols of all logs.
+    pub(crate) rules: RuleStore,
+    /// The snapshot of each period.
+    pub(crate) snaps: Vec<Snapshot>,
+}
+
+// Judges parts but for their logs: the rules, then the total of all lengths, then each period.
+fn judged(alloc: Global, parts: Parts) -> Result<JudgedParts, FormatFault>
+    requires { IsShaped parts }
+    ensures judged { IfOk result (AreJudged parts) }
+    ensures flaw { IfErr result (λ fault. IsFormatFaultFor (check_flaw parts) fault) }
+{
+    let Parts {
+        frame,
+        objects,
+        alphabet,
+        rules,
+        periods,
+        symbols,
+    } = parts;
+    let rules = RuleStore::check(alloc, alphabet, rules, symbols, frame.height, frame.period)?;
+    check_total(&frame, periods.as_slice(), rules.sizes().2)?;
+    let count = objects.as_slice().len() as u32;
+    let snaps = check_periods(alloc, &frame, count, periods)?;
+    Ok(JudgedParts {
+        frame,
+        objects,
+        rules,
+        snaps,
+    })
+}
+
+// Judges the parts of an index, which have no flaw, so that `Memory` is the only refusal.
+fn judged_valid(alloc: Global, parts: Parts) -> Result<JudgedParts, Memory>
+    requires { IsValid parts }
+    ensures { IfOk result (AreJudged parts) }
+{
+    match judged(alloc, parts) {
+        Ok(judged) => Ok(judged),
+        Err(FormatFault::Memory) => Err(Memory),
+        Err(FormatFault::Flaw(_)) => unreachable!(), // the parts of an index have no flaw
+    }
 }
 
 // Whether the lengths of all logs add up to the number of symbols.

@@ -1,10 +1,13 @@
-ghost use Rattle.std.specs.Prelude.{◌≡◌, ◌^◌, ◌<◌, ◌≤◌, IfOk, IfSome, OnOk};
+ghost use Rattle.std.specs.Prelude.{◌≡◌, ◌^◌, ◌<◌, ◌≤◌, map, IfOk, IfSome, OnOk};
 ghost use Rattle.rule_store.specs.Table.{symbols_of};
 ghost use Rattle.rule_store.specs.View.{RulesView};
 ghost use Rattle.track_types.specs.declared.limit.TheConstants.{MAX_HEIGHT, MAX_PERIOD, MAX_SPAN};
 ghost use Rattle.index_format.specs.Answers.{GivesElement};
 ghost use Rattle.index_format.specs.OutlineBlocks.{block_in, further_in, object_blocks_in, blocks_in};
-ghost use Rattle.index_format.specs.BlockSteps.{GivesBlocks, IsKept, IsWholeTable, next_anchor_in, nothing_told};
+ghost use Rattle.index_format.specs.BlockSteps.{GivesBlocks, IsKept, IsWholeTable, next_anchor_in, nothing_told, told_of};
+ghost use Rattle.index_format.specs.IsOutline.{blocks_with_logs};
+ghost use Rattle.index_format.specs.OutlineBounds.{block_bounds};
+ghost use Rattle.index_format.specs.LogReading.{StaysBounded};
 
 use crate::outline::anchors::anchor_in;
 use crate::outline::entries::{LogRest, log_in};
@@ -13,34 +16,32 @@ use crate::outline::told::told;
 use crate::outline::{BlockList, OutlineBlock};
 use crate::place::Place;
 use bit_stream::BitReader;
+use log_bounds::PackedBounds;
 use rule_store::EntryTable;
 use std::alloc::Global;
-use std::marker::Model;
 use track_types::{Cell, FormatFault, Frame, Kind, List32, Section};
 
-/// The blocks and symbols so far, the first instant of an object that is not yet told, and its last cell.
+/// What was read so far: the blocks, the bounds of their logs, the symbols of these, the first instant of an object that is not
+/// yet told, and its last cell.
 #[derive(Drop)]
 struct Progress {
     blocks: Vec<OutlineBlock>,
+    bounds: Vec<PackedBounds>,
     symbols: Vec<u32>,
     next: u32,
     last: Option<Cell>,
 }
 
-impl Model for Progress {
-    ghost use Rattle.index_format.specs.OutlineBlocks as outline;
-
-    ghost Value = { outline.Told };
-
-    ghost view = { λ progress. record {
-      blocks = progress.blocks.items;
-      symbols = progress.symbols.items;
-      next = progress.next;
-      last = progress.last;
-    } };
+/// The blocks of all objects, with the symbols and the bounds of their logs.
+#[derive(Drop)]
+pub struct ReadBlocks {
+    pub blocks: BlockList,
+    pub symbols: List32,
+    pub bounds: Vec<PackedBounds>,
 }
 
-/// The blocks of so many objects, and the symbols of their logs, over the `symbols` symbols of a table. Memory is taken as they are read.
+/// The blocks of so many objects, with the symbols and the bounds of their logs, over the `symbols` symbols of a table. Memory is
+/// taken as they are read.
 pub fn blocks_in(
     alloc: Global,
     frame: &Frame,
@@ -48,19 +49,22 @@ pub fn blocks_in(
     symbols: u32,
     objects: u32,
     reader: &mut BitReader<'_>,
-) -> Result<(BlockList, List32), FormatFault>
+) -> Result<ReadBlocks, FormatFault>
     requires some { 0 < frame.now.period }
     requires period_fits { frame.now.period ≤ MAX_PERIOD }
     requires height_fits { frame.now.height ≤ MAX_HEIGHT }
     requires span_fits { frame.now.span ≤ MAX_SPAN }
     requires all { symbols ≡ symbols_of table.now }
     requires few { symbols ≤ 2 ^ 26 }
-    ensures { (view : RulesView) → IsWholeTable view table.now → GivesBlocks result reader.new
+    ensures exact { (view : RulesView) → IsWholeTable view table.now → GivesBlocks result reader.new
         (blocks_in objects frame.now view 0 nothing_told reader.old) }
+    ensures bounds { IfOk result (λ read. (view : RulesView) → IsWholeTable view table.now
+        → read.bounds.items ≡ map (block_bounds view) (blocks_with_logs read.blocks read.symbols)) }
 {
     let ground = Ground::of(frame, table, symbols);
     let mut progress = Progress {
         blocks: Vec::new(alloc),
+        bounds: Vec::new(alloc),
         symbols: Vec::new(alloc),
         next: 0,
         last: None,
@@ -68,10 +72,11 @@ pub fn blocks_in(
     for index in 0..objects {
         object_blocks_in(ground, index, &mut progress, reader)?;
     }
-    Ok((
-        BlockList::new(progress.blocks),
-        List32::new(progress.symbols),
-    ))
+    Ok(ReadBlocks {
+        blocks: BlockList::new(progress.blocks),
+        symbols: List32::new(progress.symbols),
+        bounds: progress.bounds,
+    })
 }
 
 // All blocks of an object, after those of the objects before it.
@@ -81,8 +86,10 @@ fn object_blocks_in(
     progress: &mut Progress,
     reader: &mut BitReader<'_>,
 ) -> Result<(), FormatFault>
-    ensures { (view : RulesView) → IsWholeTable view ground.entry.table.now → GivesElement (λ _. progress.new) result reader.new
-        (object_blocks_in ground.entry.frame view index progress.old reader.old) }
+    ensures exact { (view : RulesView) → IsWholeTable view ground.entry.table.now
+        → GivesElement (λ _. told_of progress.new) result reader.new
+        (object_blocks_in ground.entry.frame view index (told_of progress.old) reader.old) }
+    ensures bounds { OnOk result (StaysBounded ground.entry.table.now progress.old progress.new) }
 {
     let place = Place::of(Section::Starts, 0);
     let start = told(reader, place, index as usize)?;
@@ -107,8 +114,10 @@ fn further_in(
     reader: &mut BitReader<'_>,
 ) -> Result<(), FormatFault>
     requires { IsKept ground.frame.height progress.old.last }
-    ensures { (view : RulesView) → IsWholeTable view ground.entry.table.now → GivesElement (λ _. progress.new) result reader.new
-        (further_in ground.entry.frame.span ground.entry.frame view index progress.old reader.old) }
+    ensures exact { (view : RulesView) → IsWholeTable view ground.entry.table.now
+        → GivesElement (λ _. told_of progress.new) result reader.new
+        (further_in ground.entry.frame.span ground.entry.frame view index (told_of progress.old) reader.old) }
+    ensures bounds { OnOk result (StaysBounded ground.entry.table.now progress.old progress.new) }
 {
     for _ in 0..ground.frame.span {
         if progress.next >= ground.frame.span {
@@ -157,9 +166,11 @@ fn block_in(
 ) -> Result<(), FormatFault>
     requires last { IsKept ground.frame.height progress.old.last }
     requires at { at < ground.frame.span }
-    ensures exact { (view : RulesView) → IsWholeTable view ground.entry.table.now → GivesElement (λ _. progress.new) result reader.new
-        (block_in ground.entry.frame view index progress.old at reader.old) }
+    ensures exact { (view : RulesView) → IsWholeTable view ground.entry.table.now
+        → GivesElement (λ _. told_of progress.new) result reader.new
+        (block_in ground.entry.frame view index (told_of progress.old) at reader.old) }
     ensures last { OnOk result (IsKept ground.entry.frame.height progress.new.last) }
+    ensures bounds { OnOk result (StaysBounded ground.entry.table.now progress.old progress.new) }
 {
     let period = at / ground.frame.period;
     let end = ground.frame.span.min((period + 1) * ground.frame.period);
@@ -177,7 +188,8 @@ fn block_in(
         cell,
         length: (progress.symbols.len() - before) as u32,
     })?;
+    progress.bounds.push(PackedBounds::pack(log.bounds))?;
     progress.next = end;
-    progress.last = Some(log.cell);
+    progress.last = Some(log.at.cell);
     Ok(())
 }

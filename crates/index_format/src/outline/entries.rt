@@ -1,10 +1,13 @@
-ghost use Rattle.std.specs.Prelude.{◌≡◌, ◌+◌, ◌≤◌, true, length, IfOk};
+ghost use Rattle.std.specs.Prelude.{◌≡◌, ℕ, ◌+◌, ◌≤◌, true, List, [], ◌∷◌, ◌++◌, length, IfOk};
 ghost use Rattle.rule_store.specs.View.{RulesView};
 ghost use Rattle.index_format.specs.Answers.{GivesElement};
 ghost use Rattle.index_format.specs.OutlineBlocks.{entry_in, log_in, is_in_grid};
 ghost use Rattle.index_format.specs.BlockSteps.{IsWholeTable, log_after, log_with};
+ghost use Rattle.index_format.specs.LogReading.{IsReadBehind, reached};
+ghost use Rattle.index_format.specs.declared.outline.entries.LogRest as declared;
 
-use crate::outline::grid::{cell_past, is_in_grid, stays_in};
+use crate::outline::bounded_log::BoundedLog;
+use crate::outline::grid::{is_in_grid, stays_in};
 use crate::outline::ground::Ground;
 use crate::outline::told::wide;
 use crate::place::Place;
@@ -18,24 +21,27 @@ pub struct LogRest {
     pub cell: Cell,
 }
 
-/// The symbols of a log, appended to those before it, and where the log has come to in the end.
+/// The symbols of a log, appended to those before it; where the log has come to in the end, and its bounds.
 pub fn log_in(
     ground: Ground<'_>,
     period: u32,
     symbols: &mut Vec<u32>,
     start: LogRest,
     reader: &mut BitReader<'_>,
-) -> Result<LogRest, FormatFault>
+) -> Result<BoundedLog, FormatFault>
     requires { is_in_grid ground.frame.height start.cell ≡ true }
-    ensures exact { (view : RulesView) → IsWholeTable view ground.entry.table.now → GivesElement (log_with symbols.new.items) result reader.new
+    ensures exact { (view : RulesView) → IsWholeTable view ground.entry.table.now
+        → GivesElement (λ log. log_with symbols.new.items log.at) result reader.new
         (log_in start.rest ground.entry.frame view period (log_with symbols.old.items start) reader.old) }
-    ensures within { IfOk result (λ log. is_in_grid ground.entry.frame.height log.cell ≡ true) }
+    ensures within { IfOk result (λ log. is_in_grid ground.entry.frame.height log.at.cell ≡ true) }
     ensures more { IfOk result (λ log. length symbols.old.items ≤ length symbols.new.items) }
     ensures few { IfOk result (λ log. length symbols.new.items ≤ length symbols.old.items + start.rest) }
+    ensures read { IfOk result (λ log. (view : RulesView) → IsWholeTable view ground.entry.table.now
+        → IsReadBehind view start symbols.old.items symbols.new.items log) }
 {
-    let mut log = start;
+    let mut log = BoundedLog::begun(start);
     for _ in 0..start.rest {
-        if log.rest == 0 {
+        if log.at.rest == 0 {
             return Ok(log);
         }
         log = entry_in(ground, period, symbols, log, reader)?;
@@ -48,14 +54,18 @@ fn entry_in(
     ground: Ground<'_>,
     period: u32,
     symbols: &mut Vec<u32>,
-    log: LogRest,
+    log: BoundedLog,
     reader: &mut BitReader<'_>,
-) -> Result<LogRest, FormatFault>
-    requires { is_in_grid ground.frame.height log.cell ≡ true }
-    ensures exact { (view : RulesView) → IsWholeTable view ground.entry.table.now → GivesElement (log_with symbols.new.items) result reader.new
-        (entry_in ground.entry.frame view period (log_with symbols.old.items log) reader.old) }
-    ensures within { IfOk result (λ log. is_in_grid ground.entry.frame.height log.cell ≡ true) }
-    ensures one { IfOk result (λ log. length symbols.new.items ≡ length symbols.old.items + 1) }
+) -> Result<BoundedLog, FormatFault>
+    requires { is_in_grid ground.frame.height log.at.cell ≡ true }
+    ensures exact { (view : RulesView) → IsWholeTable view ground.entry.table.now
+        → GivesElement (λ next. log_with symbols.new.items next.at) result reader.new
+        (entry_in ground.entry.frame view period (log_with symbols.old.items log.at) reader.old) }
+    ensures within { IfOk result (λ next. is_in_grid ground.entry.frame.height next.at.cell ≡ true) }
+    ensures one { IfOk result (λ next. length symbols.new.items ≡ length symbols.old.items + 1) }
+    ensures read { IfOk result (λ next. (view : RulesView) (start : declared.LogRest) (before : List ℕ)
+        → IsWholeTable view ground.entry.table.now → IsReadBehind view start before symbols.old.items log
+        → IsReadBehind view start before symbols.new.items next) }
 {
     let place = Place::of(Section::Log, period);
     let index = symbols.len();
@@ -72,29 +82,30 @@ fn entry_in(
     }
 }
 
-// Where a log comes to by a symbol, or what is wrong with that.
-fn entry_after(ground: Ground<'_>, log: LogRest, symbol: u32) -> Result<LogRest, Kind>
-    requires { is_in_grid ground.frame.height log.cell ≡ true }
-    ensures exact { (view : RulesView) → IsWholeTable view ground.entry.table.now → result ≡ log_after ground.entry.frame.height view log symbol }
-    ensures within { IfOk result (λ log. is_in_grid ground.entry.frame.height log.cell ≡ true) }
+// A log with one symbol more, or what is wrong with that.
+fn entry_after(ground: Ground<'_>, log: BoundedLog, symbol: u32) -> Result<BoundedLog, Kind>
+    requires { is_in_grid ground.frame.height log.at.cell ≡ true }
+    ensures exact { (view : RulesView) → IsWholeTable view ground.entry.table.now
+        → reached result ≡ log_after ground.entry.frame.height view log.at symbol }
+    ensures within { IfOk result (λ next. is_in_grid ground.entry.frame.height next.at.cell ≡ true) }
+    ensures read { IfOk result (λ next. (view : RulesView) (start : declared.LogRest) (before symbols : List ℕ)
+        → IsWholeTable view ground.entry.table.now → IsReadBehind view start before symbols log
+        → IsReadBehind view start before (symbols ++ symbol ∷ []) next) }
 {
     if symbol >= ground.symbols {
         return Err(Kind::Symbol);
     }
     let entry = ground.table.entry(symbol);
-    let cell = cell_past(ground.frame.height, log.cell, &entry);
-    if !stays_in(ground.frame.height, log.cell, &entry.hull) {
+    if !stays_in(ground.frame.height, log.at.cell, &entry.hull) {
         return Err(Kind::OffGrid);
     }
-    // This never happens: an entry whose box is in the grid ends in that box, or does not move.
-    if !is_in_grid(ground.frame.height, cell) {
-        return Err(Kind::OffGrid);
-    }
-    if entry.duration > log.rest {
+    if entry.duration > log.at.rest {
         return Err(Kind::Duration);
     }
-    Ok(LogRest {
-        rest: log.rest - entry.duration,
-        cell,
-    })
+    let next = log.with(ground.frame.height, &entry);
+    // This never happens: an entry whose box is in the grid ends in that box, or does not move.
+    if !is_in_grid(ground.frame.height, next.at.cell) {
+        return Err(Kind::OffGrid);
+    }
+    Ok(next)
 }

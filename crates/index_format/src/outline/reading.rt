@@ -1,6 +1,7 @@
-ghost use Rattle.std.specs.Prelude.{◌≡◌};
+ghost use Rattle.std.specs.Prelude.{◌≡◌, IfOk};
 ghost use Rattle.index_format.specs.Answers.{Gives};
 ghost use Rattle.index_format.specs.Headers.{IsHeader};
+ghost use Rattle.index_format.specs.OutlineBounds.{bounds_in};
 ghost use Rattle.index_format.specs.OutlineFile.{outline_after};
 
 use crate::header::Header;
@@ -11,14 +12,21 @@ use crate::outline::ending::ended;
 use crate::outline::layers::rules_in;
 use crate::outline::table::values_table;
 use bit_stream::BitReader;
+use log_bounds::PackedBounds;
 use std::alloc::Global;
 use track_types::FormatFault;
 
-/// The outline that all bytes after the header hold. Memory is taken as its lists are read.
+/// The outline that all bytes after the header hold, and the bounds of the logs of its blocks. Memory is taken as its lists are
+/// read.
 #[tactic(auto, unfolding(crate::specs::OutlineFile::outline_after))]
-pub fn outline_after(alloc: Global, header: Header, bytes: &[u8]) -> Result<Outline, FormatFault>
+pub fn outline_after(
+    alloc: Global,
+    header: Header,
+    bytes: &[u8],
+) -> Result<(Outline, Vec<PackedBounds>), FormatFault>
     requires { IsHeader header }
-    ensures { Gives (λ outline. outline) result (outline_after header bytes.now) }
+    ensures exact { Gives (λ read. read.0) result (outline_after header bytes.now) }
+    ensures bounds { IfOk result (λ read. read.1.items ≡ bounds_in read.0) }
 {
     let Header {
         frame,
@@ -33,14 +41,15 @@ pub fn outline_after(alloc: Global, header: Header, bytes: &[u8]) -> Result<Outl
     let values = values_in(alloc, frame.height, alphabet, &mut reader)?;
     let mut table = values_table(alloc, frame.height, frame.period, values.as_slice())?;
     let rules = rules_in(alloc, &mut table, alphabet, rules, &mut reader)?;
-    let (blocks, log) = blocks_in(alloc, &frame, &table, symbols, objects, &mut reader)?;
+    let read = blocks_in(alloc, &frame, &table, symbols, objects, &mut reader)?;
     ended(&reader)?;
-    Ok(Outline {
+    let outline = Outline {
         frame,
         objects: numbers,
         alphabet: values,
         rules,
-        blocks,
-        symbols: log,
-    })
+        blocks: read.blocks,
+        symbols: read.symbols,
+    };
+    Ok((outline, read.bounds))
 }

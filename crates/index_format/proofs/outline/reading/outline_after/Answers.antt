@@ -45,8 +45,8 @@ blocks_in-requires-clause-all c =
     let table = c.in_ok-rules.ensures.table view begun in
     omega (arith, table.many, read.0, rules.long)
 
-pub returns-in_err-blocks : goal.returns-in_err-blocks
-returns-in_err-blocks c =
+pub returns-in_err-read-clause-exact : goal.returns-in_err-read-clause-exact
+returns-in_err-read-clause-exact c =
     let header = c.args.header in
     let values = c.in_ok-values.values in
     let view = frame_rules header.frame values [] in
@@ -57,14 +57,14 @@ returns-in_err-blocks c =
     let table = c.in_ok-rules.ensures.table view begun in
     let whole : IsWholeTable (frame_rules header.frame values c.in_ok-rules.rules) c.rules_in.new.table =
     record { known = table.known; all = table.many } in
-    let p = err_from_is_err_and c.from_residual-in_err-blocks.result c.from_residual-in_err-blocks.ensures.1 in
+    let p = err_from_is_err_and c.from_residual-in_err-read.result c.from_residual-in_err-read.ensures.1 in
     let start = rw c.new-reader.ensures at c.in_ok-numbers.ensures in
     rw (p.1, p.2) (after-blocks header c.args.bytes.now c.in_ok-numbers.numbers values c.in_ok-rules.rules
     c.objects_in.new.reader c.values_in.new.reader c.rules_in.new.reader start c.in_ok-values.ensures
-    (c.in_ok-rules.ensures.exact view begun) c.in_err-blocks.field-0.0 (c.in_err-blocks.ensures _ whole))
+    (c.in_ok-rules.ensures.exact view begun) c.in_err-read.field-0.0 (c.in_err-read.ensures.exact _ whole))
 
-pub returns-in_err-ended : goal.returns-in_err-ended
-returns-in_err-ended c =
+pub returns-in_err-ended-clause-exact : goal.returns-in_err-ended-clause-exact
+returns-in_err-ended-clause-exact c =
     let header = c.args.header in
     let values = c.in_ok-values.values in
     let view = frame_rules header.frame values [] in
@@ -75,15 +75,15 @@ returns-in_err-ended c =
     let table = c.in_ok-rules.ensures.table view begun in
     let whole : IsWholeTable (frame_rules header.frame values c.in_ok-rules.rules) c.rules_in.new.table =
     record { known = table.known; all = table.many } in
-    let told = c.in_ok-blocks.ensures _ whole in
+    let told = c.in_ok-read.ensures.exact _ whole in
     let p = err_from_is_err_and c.from_residual-in_err-ended.result c.from_residual-in_err-ended.ensures.1 in
     let start = rw c.new-reader.ensures at c.in_ok-numbers.ensures in
     rw (p.1, p.2) (after-end header c.args.bytes.now c.in_ok-numbers.numbers values c.in_ok-rules.rules
     c.objects_in.new.reader c.values_in.new.reader c.rules_in.new.reader start c.in_ok-values.ensures
     (c.in_ok-rules.ensures.exact view begun) told.0 c.blocks_in.new.reader told.1 c.in_err-ended.field-0.0 c.in_err-ended.ensures)
 
-pub returns : goal.returns
-returns c =
+pub returns-clause-exact : goal.returns-clause-exact
+returns-clause-exact c =
     let header = c.args.header in
     let values = c.in_ok-values.values in
     let view = frame_rules header.frame values [] in
@@ -94,9 +94,21 @@ returns c =
     let table = c.in_ok-rules.ensures.table view begun in
     let whole : IsWholeTable (frame_rules header.frame values c.in_ok-rules.rules) c.rules_in.new.table =
     record { known = table.known; all = table.many } in
-    let told = c.in_ok-blocks.ensures _ whole in
+    let told = c.in_ok-read.ensures.exact _ whole in
     let start = rw c.new-reader.ensures at c.in_ok-numbers.ensures in
     after-done header c.args.bytes.now c.in_ok-numbers.numbers values c.in_ok-rules.rules
     c.objects_in.new.reader c.values_in.new.reader c.rules_in.new.reader start c.in_ok-values.ensures
     (c.in_ok-rules.ensures.exact view begun) told.0 c.blocks_in.new.reader told.1 c.in_ok-ended.ensures
     ∙ rw (told.2, told.3) refl
+
+pub returns-clause-bounds : goal.returns-clause-bounds
+returns-clause-bounds c =
+    let header = c.args.header in
+    let values = c.in_ok-values.values in
+    let view = frame_rules header.frame values [] in
+    let begun : IsRuleTable view [] c.in_ok-table.table = record {
+      known = c.in_ok-table.ensures.entries view (sym c.as_slice.ensures) refl refl;
+      many = omega (arith, c.in_ok-table.ensures.many, ap length c.as_slice.ensures);
+    } in
+    let table = c.in_ok-rules.ensures.table view begun in
+    c.in_ok-read.ensures.bounds (frame_rules header.frame values c.in_ok-rules.rules) (record { known = table.known; all = table.many })
