@@ -1,9 +1,9 @@
 -- The ends of equal numbers that stand together: there are as many as distinct numbers, and the ends before a place
 -- tell which of these stands there.
-use Rattle.std.proofs.Common.{◌≡◌, ℕ, zero, suc, ◌+◌, ◌-◌, ◌<◌, ◌==◌, true, false, List, [], ◌∷◌, length, refl}
-use Rattle.std.proofs.Common.{sym, ap, ◌∙◌, arith, inl, inr, Bool, cond, Some}
-use Rattle.std.specs.Prelude.{All, not, slice_get, slice_index, slice_index_or}
-use Rattle.std.specs.List.{dedup, dedup_from}
+use Rattle.std.proofs.Common.{◌≡◌, ℕ, zero, suc, ◌+◌, List, [], ◌∷◌, length, map, add-one, refl, sym, ◌∙◌, ap, arith, ◌-◌, ◌<◌, ◌==◌, true, false, inl, inr, Bool, cond, Some}
+use Rattle.std.specs.Prelude.{not, slice_index, All, slice_get, slice_index_or}
+use Rattle.std.specs.List.{range_with_len, dedup, dedup_from}
+use Rattle.std.proofs.lemmas.Bool.Decides.{nat_tests}
 use Rattle.std.proofs.lemmas.Bool.{eq-eqb, ne_eqb}
 use Rattle.std.proofs.lemmas.List.Elements.{All-map, All-weaker}
 use Rattle.std.proofs.lemmas.List.Filters.{All-dedup}
@@ -11,13 +11,38 @@ use Rattle.std.proofs.lemmas.Map.Keys.{IsStrictlyIncreasing-dedup}
 use Rattle.std.proofs.lemmas.Option.{get_or_from_slice_get}
 use Rattle.packed_bits.specs.Bits.{ones_of}
 use Rattle.bit_rank.specs.Bits.{rank_of}
-use Rattle.bit_rank.proofs.RankLemmas.{ones_of-cons, ones_of-nil, rank_of-all, rank_of-cons, rank_of-le}
-use Rattle.bit_rank.proofs.RankLemmas.{rank_of-step, rank_of-zero}
+use Rattle.bit_rank.proofs.RankLemmas.{ones_of-cons, ones_of-nil, rank_of-all, rank_of-cons, rank_of-le, rank_of-step, rank_of-zero}
 use Rattle.k2_tree.specs.TreeBits.{Rises}
 use Rattle.k2_tree.proofs.PrefixLemmas.{by_test}
 use Rattle.k2_tree.proofs.RisingLemmas.{rises}
-use Rattle.chart_parts.specs.LeafOrder.{distinct_codes, ends_of, leaf_codes, leaf_order}
+use Rattle.chart_parts.specs.LeafOrder.{ends_of, distinct_codes, leaf_codes, leaf_order}
+use Rattle.chart_parts.specs.PeriodWith.{is_end}
 use Rattle.chart_parts.proofs.LeafOrderLemmas.{IsSorted-leaf_codes, leaf_codes-at, leaf_order-within, length-leaf_codes}
+
+is_end-suc : (code : ℕ) (codes : List ℕ) (place : ℕ) → is_end (code ∷ codes) (place + 1) ≡ is_end codes place
+is_end-suc code codes place =
+    let next : place + 1 + 1 ≡ suc (place + 1) = omega arith in
+    let there : slice_index (code ∷ codes) (place + 1 + 1) ≡ slice_index codes (place + 1) = rw next refl in
+    grind (arith, nat_tests, add-one place, there)
+
+is_end-later : (code : ℕ) (codes : List ℕ) (from n : ℕ) →
+    map (is_end (code ∷ codes)) (range_with_len (from + 1) n) ≡ map (is_end codes) (range_with_len from n)
+is_end-later code codes from zero = refl
+is_end-later code codes from (suc n) =
+    rw (is_end-suc code codes from) (ap (λ bits. is_end codes from ∷ bits) (is_end-later code codes (from + 1) n))
+
+first_end : (code next : ℕ) (codes : List ℕ) → is_end (code ∷ next ∷ codes) 0 ≡ not (code == next)
+first_end code next codes = grind (arith, nat_tests)
+
+-- the ends are the places after which no number is the same
+pub ends_of-map : (codes : List ℕ) → ends_of codes ≡ map (is_end codes) (range_with_len 0 (length codes))
+unfolding ends_of
+ends_of-map [] = refl
+ends_of-map (code ∷ []) = refl
+ends_of-map (code ∷ next ∷ codes) =
+    rw (first_end code next codes)
+    (ap (λ bits. not (code == next) ∷ bits)
+    (ends_of-map (next ∷ codes) ∙ sym (is_end-later code (next ∷ codes) 0 (length (next ∷ codes)))))
 
 -- numbers without those that are the same as the one before
 abbrev once : List ℕ → List ℕ
@@ -36,16 +61,7 @@ unfolding ends_of
 ones_of-ends_of [] = ones_of-nil
 ones_of-ends_of (code ∷ []) = omega (arith, ones_of-cons true [], ones_of-nil)
 ones_of-ends_of (code ∷ next ∷ codes) =
-    let rest = ones_of-ends_of (next ∷ codes) in
-    elim (by_test next code) [
-      | inl same ↦
-          let alike : (code == next) ≡ true = eq-eqb code next (sym same.0) in
-          let few = ap (λ c. length (dedup_from (λ a b. a == b) c codes)) same.0 in
-          rw (same.1, alike) (omega (arith, ones_of-cons false (ends_of (next ∷ codes))))
-      | inr differ ↦
-          let apart : (code == next) ≡ false = ne_eqb code next (λ e. differ.0 (sym e)) in
-          rw (differ.1, apart) (omega (arith, ones_of-cons true (ends_of (next ∷ codes))))
-    ]
+    grind (arith, nat_tests, ones_of-ends_of (next ∷ codes), ones_of-cons (not (code == next)) (ends_of (next ∷ codes)))
 
 -- the last number is an end
 pub ends_of-last : (codes : List ℕ) → 0 < length (ends_of codes) →
@@ -67,12 +83,8 @@ once-at_rank (code ∷ []) (suc p) within = absurd (omega arith)
 once-at_rank (code ∷ []) zero within = rw (rank_of-zero (true ∷ [])) refl
 once-at_rank (code ∷ next ∷ codes) zero within =
     let first = once-at_rank (next ∷ codes) 0 (omega arith) in
-    rw (rank_of-zero (not (code == next) ∷ ends_of (next ∷ codes))) (elim (by_test next code) [
-      | inl same ↦
-          let list = ap (λ c. slice_index (dedup_from (λ a b. a == b) c codes) 0) same.0 in
-          rw same.1 (sym list ∙ (rw (rank_of-zero (ends_of (next ∷ codes))) at first) ∙ same.0)
-      | inr differ ↦ rw differ.1 refl
-    ])
+    let none = rank_of-zero (ends_of (next ∷ codes)) in
+    grind (arith, nat_tests, first, rank_of-zero (not (code == next) ∷ ends_of (next ∷ codes)), none)
 once-at_rank (code ∷ next ∷ codes) (suc p) within =
     let rest = once-at_rank (next ∷ codes) p (omega arith) in
     let before : ℕ = rank_of (ends_of (next ∷ codes)) p in

@@ -1,20 +1,35 @@
--- Places in leaf order: a permutation that goes by the places' numbers, and from one place of a number to a later one.
-use Rattle.std.proofs.Common.{◌≡◌, ℕ, zero, suc, ◌+◌, ◌<◌, ◌≤◌, List, [], ◌∷◌, length, get_or, inl, inr, sym, ap}
-use Rattle.std.proofs.Common.{◌∙◌, arith}
+-- Leaf order: a permutation of places that goes by number, then by place, and what a sort of leaves leaves.
+use Rattle.std.proofs.Common.{◌≡◌, ℕ, zero, suc, ◌+◌, ◌<◌, ◌≤◌, List, [], ◌∷◌, length, get_or, inl, inr, sym, ap, ◌∙◌, arith, map, subst, refl}
 use Rattle.std.specs.Prelude.{All, slice_index}
 use Rattle.std.specs.List.{AllByRecursion, range_with_len}
-use Rattle.std.specs.List.Sorted.{IsPermutation, IsSorted}
-use Rattle.std.specs.Ordering.{is_lt, nat_cmp}
-use Rattle.std.proofs.lemmas.Bool.{cases_Bool, cases_order}
+use Rattle.std.specs.List.Sorted.{IsPermutation, IsSorted, IsSortedByKey, IsStrictlySortedBy}
+use Rattle.std.specs.Ordering.{is_lt, nat_cmp, on, then_cmp}
+use Rattle.std.specs.declared.cmp.Ordering.TheVariants.{Less}
+use Rattle.std.proofs.lemmas.Bool.{cases_Bool, cases_order, cases_lt}
 use Rattle.std.proofs.lemmas.Bool.Decides.{nat_tests}
 use Rattle.std.proofs.lemmas.List.{get_or-map, get_or_default, length-map}
-use Rattle.std.proofs.lemmas.List.Elements.{All-from_recursion}
+use Rattle.std.proofs.lemmas.List.Elements.{All-from_recursion, recursion_from_All}
 use Rattle.std.proofs.lemmas.List.FromFn.{get_or-range_with_len, length-range_with_len}
-use Rattle.std.proofs.lemmas.List.Sorted.{All-permutation, length_permutation}
-use Rattle.object_perm.specs.Permutation.{PermutesPlaces}
+use Rattle.std.proofs.lemmas.List.Sorted.{All-permutation, length_permutation, IsPermutation-map, IsPermutation-sym, IsPermutation-trans}
+use Rattle.std.proofs.lemmas.Cmp.{nat_cmp_total, on_total, then_total}
+use Rattle.std.proofs.lemmas.Map.Keys.{sorted_from_all_adjacent, Less-from_sorted}
 use Rattle.list_laws.specs.Ordered.{ordered, insert_in_order}
 use Rattle.list_laws.proofs.OrderedLemmas.{IsPermutation-ordered, all-ordered, all-insert_in_order}
-use Rattle.chart_parts.specs.LeafOrder.{by_code, leaf_codes, leaf_order}
+use Rattle.list_laws.proofs.ApartLemmas.{same_from_sorted}
+use Rattle.object_perm.specs.Permutation.{PermutesPlaces}
+use Rattle.track_types.specs.declared.frame.Frame.{Frame}
+use Rattle.track_types.specs.declared.limit.TheConstants.{MAX_OBJECTS}
+use Rattle.movement_log.specs.declared.head.Head.{Head}
+use Rattle.k2_tree.specs.Morton.{morton_of}
+use Rattle.k2_tree.proofs.ToldLemmas.{morton_bits-none}
+use Rattle.snapshots.specs.View.{widths_in}
+use Rattle.chart_parts.specs.LeafOrder.{by_code, leaf_codes, leaf_order, distinct_codes, ends_of}
+use Rattle.chart_parts.specs.Leaf.{LeafView, number_of}
+use Rattle.chart_parts.specs.PeriodWith.{codes_of_heads, block_leaf, no_head, period_with, presence_of, without_blocks}
+use Rattle.list_laws.proofs.MapLemmas.{map-back, map_alike}
+use Rattle.std.proofs.lemmas.Simd.{map-map}
+use Rattle.std.specs.Cmp.{IsTotalOrder}
+use Rattle.std.specs.declared.cmp.Ordering.{Ordering}
 
 module _ (codes : List ℕ) where
   -- a place comes before another: its number is not greater, and where the two are one, it is the earlier place
@@ -22,65 +37,56 @@ module _ (codes : List ℕ) where
     pub low : slice_index codes a ≤ slice_index codes b
     pub tied : slice_index codes a ≡ slice_index codes b → a < b
 
-  -- each place comes before all that follow
-  abbrev AreInOrder : List ℕ → Type 0
-  AreInOrder [] = Unit {0}
-  AreInOrder (a ∷ rest) = AllByRecursion (IsBefore a) rest × AreInOrder rest
+  abbrev place_cmp : ℕ → ℕ → Ordering
+  place_cmp = then_cmp (by_code codes) nat_cmp
 
-  before_all : (a b : ℕ) (rest : List ℕ) → IsBefore a b → AllByRecursion (IsBefore b) rest →
-      AllByRecursion (IsBefore a) rest
-  before_all a b [] first all = tt
-  before_all a b (c ∷ rest) first all =
-      let low : slice_index codes a ≤ slice_index codes c = omega (arith, first.low, all.0.low) in
-      let tied : slice_index codes a ≡ slice_index codes c → a < c =
-      λ same. omega (arith, first.low, all.0.low, first.tied, all.0.tied) in
-      (record { low = low; tied = tied }, before_all a b rest first all.1)
+  place_total : IsTotalOrder place_cmp
+  place_total = then_total (on_total (slice_index codes) nat_cmp_total) nat_cmp_total
 
   -- an earlier place than all others is put in its place
-  in_order-insert_in_order : (a : ℕ) (rest : List ℕ) → AllByRecursion (λ b. a < b) rest → AreInOrder rest →
-      AreInOrder (insert_in_order (by_code codes) a rest)
-  unfolding insert_in_order
-  in_order-insert_in_order a [] earlier are = (tt, tt)
-  in_order-insert_in_order a (b ∷ rest) earlier are = elim (cases_Bool (is_lt (by_code codes b a))) [
+  strict-insert_in_order : (a : ℕ) (rest : List ℕ) → AllByRecursion (λ b. a < b) rest →
+      IsStrictlySortedBy place_cmp rest →
+      IsStrictlySortedBy place_cmp (insert_in_order (by_code codes) a rest)
+  unfolding insert_in_order IsStrictlySortedBy
+  strict-insert_in_order a [] earlier up = (tt, tt)
+  strict-insert_in_order a (b ∷ rest) earlier up = elim (cases_Bool (is_lt (by_code codes b a))) [
     | inl less ↦
-        let low : slice_index codes b < slice_index codes a = grind (arith, nat_tests) in
-        let first : IsBefore b a = record { low = omega arith; tied = λ same. omega arith } in
-        rw less (all-insert_in_order (by_code codes) (IsBefore b) a rest first are.0, in_order-insert_in_order a rest earlier.1 are.1)
+        let first : place_cmp b a ≡ Less = grind (arith, nat_tests) in
+        rw less (
+          all-insert_in_order (by_code codes)
+              (λ z. place_cmp b z ≡ Less) a rest first up.0,
+          strict-insert_in_order a rest earlier.1 up.1,
+        )
     | inr not ↦
-        let low : slice_index codes a ≤ slice_index codes b = grind (arith, nat_tests) in
-        let first : IsBefore a b = record { low = low; tied = λ same. earlier.0 } in
-        rw not ((first, before_all a b rest first are.0), are)
+        let low : a < b = earlier.0 in
+        let first : place_cmp a b ≡ Less = grind (arith, nat_tests) in
+        let all = recursion_from_All (λ z. place_cmp a z ≡ Less) rest (λ k d within.
+        place_total.trans a b _ first (All-from_recursion (λ z. place_cmp b z ≡ Less) rest up.0 k d within)) in
+        rw not ((first, all), up)
   ]
 
   later_range : (a from n : ℕ) → a < from → AllByRecursion (λ b. a < b) (range_with_len from n)
   later_range a from zero below = tt
   later_range a from (suc n) below = (below, later_range a (from + 1) n (omega arith))
 
-  in_order-ordered : (from n : ℕ) → AreInOrder (ordered (by_code codes) (range_with_len from n))
-  unfolding ordered
-  in_order-ordered from zero = tt
-  in_order-ordered from (suc n) =
-      in_order-insert_in_order from (ordered (by_code codes) (range_with_len (from + 1) n))
+  strict-ordered : (from n : ℕ) → IsStrictlySortedBy place_cmp (ordered (by_code codes) (range_with_len from n))
+  unfolding ordered IsStrictlySortedBy
+  strict-ordered from zero = tt
+  strict-ordered from (suc n) =
+      strict-insert_in_order from (ordered (by_code codes) (range_with_len (from + 1) n))
       (all-ordered (by_code codes) (λ b. from < b) (range_with_len (from + 1) n)
       (later_range from (from + 1) n (omega arith)))
-      (in_order-ordered (from + 1) n)
+      (strict-ordered (from + 1) n)
 
-  before_at : (places : List ℕ) → AreInOrder places → (p q : ℕ) → p < q → q < length places →
-      IsBefore (get_or places p 0) (get_or places q 0)
-  before_at [] are p q less within = absurd (omega arith)
-  before_at (a ∷ rest) are p zero less within = absurd (omega arith)
-  before_at (a ∷ rest) are zero (suc q) less within =
-      All-from_recursion (IsBefore a) rest are.0 q 0 (omega arith)
-  before_at (a ∷ rest) are (suc p) (suc q) less within = before_at rest are.1 p q (omega arith) (omega arith)
-
-  moved : IsPermutation (range_with_len 0 (length codes)) (leaf_order codes)
+  -- leaf order is a permutation of the places
+  pub IsPermutation-leaf_order : IsPermutation (range_with_len 0 (length codes)) (leaf_order codes)
   unfolding leaf_order
-  moved = IsPermutation-ordered (by_code codes) (range_with_len 0 (length codes))
+  IsPermutation-leaf_order = IsPermutation-ordered (by_code codes) (range_with_len 0 (length codes))
 
   -- there are as many places in leaf order as there are numbers
   pub length-leaf_order : length (leaf_order codes) ≡ length codes
   length-leaf_order =
-      length_permutation (range_with_len 0 (length codes)) (leaf_order codes) moved
+      length_permutation (range_with_len 0 (length codes)) (leaf_order codes) IsPermutation-leaf_order
       ∙ length-range_with_len 0 (length codes)
 
   -- and as many numbers
@@ -99,17 +105,20 @@ module _ (codes : List ℕ) where
       IsBefore (slice_index (leaf_order codes) p) (slice_index (leaf_order codes) q)
   unfolding leaf_order
   leaf_order-before p q less within =
-      before_at (leaf_order codes) (in_order-ordered 0 (length codes)) p q less (omega (arith, length-leaf_order))
+      let order = Less-from_sorted place_cmp (leaf_order codes) p q 0 (strict-ordered 0 (length codes)) less
+      (omega (arith, length-leaf_order)) in
+      record { low = grind (arith, nat_tests); tied = λ same. grind (arith, nat_tests) }
 
   -- a place in leaf order is a place of a number
   pub leaf_order-within : All (λ place. place < length codes) (leaf_order codes)
   leaf_order-within =
-      All-permutation (λ place. place < length codes) (range_with_len 0 (length codes)) (leaf_order codes) moved
+      All-permutation (λ place. place < length codes) (range_with_len 0 (length codes))
+      (leaf_order codes) IsPermutation-leaf_order
       (λ i d within.
       let long = length-range_with_len 0 (length codes) in
       omega (arith, long, get_or-range_with_len 0 (length codes) i d (omega arith)))
 
-  -- leaf order is a permutation of the places
+  -- each place stands in leaf order once
   pub PermutesPlaces-leaf_order : PermutesPlaces (leaf_order codes)
   PermutesPlaces-leaf_order = record {
     within = λ i within. let low = leaf_order-within i 0 within in omega (arith, length-leaf_order);
@@ -140,3 +149,75 @@ module _ (codes : List ℕ) where
       let here = get_or_default (leaf_codes codes) i d 0 (omega arith) in
       let next = get_or_default (leaf_codes codes) (i + 1) d 0 high in
       grind (arith, nat_tests)
+
+module _ (frame : Frame) (heads : List Head) where
+  abbrev codes : List ℕ
+  codes = codes_of_heads frame heads
+
+  -- the leaves by object, and in leaf order
+  abbrev pub leaves_from : List LeafView
+  leaves_from = map (block_leaf frame heads) (range_with_len 0 (length heads))
+
+  abbrev in_order : List LeafView
+  in_order = map (block_leaf frame heads) (leaf_order codes)
+
+  many : length codes ≡ length heads
+  many = length-map heads (λ head. morton_of frame.height frame.base head.cell)
+
+  -- the number of the leaf at a place
+  pub code-at : (place : ℕ) → place < length heads → slice_index codes place ≡ (block_leaf frame heads place).code
+  code-at place within = get_or-map (λ head. morton_of frame.height frame.base head.cell) heads place no_head 0 within
+
+  -- in leaf order each number is below the next
+  rising-leaves : length heads ≤ MAX_OBJECTS → IsStrictlySortedBy (on number_of nat_cmp) in_order
+  rising-leaves few =
+      sorted_from_all_adjacent (on_total number_of nat_cmp_total) in_order (block_leaf frame heads 0) (λ k within.
+      let long = length-map (leaf_order codes) (block_leaf frame heads) in
+      let inside : k + 1 < length codes = omega (arith, length-leaf_order codes) in
+      let a : ℕ = slice_index (leaf_order codes) k in
+      let b : ℕ = slice_index (leaf_order codes) (k + 1) in
+      let before = leaf_order-before codes k (k + 1) (omega arith) inside in
+      let low : a < length codes = leaf_order-within codes k 0 (omega (arith, length-leaf_order codes)) in
+      let high : b < length codes = leaf_order-within codes (k + 1) 0 (omega (arith, length-leaf_order codes)) in
+      let here = code-at a (omega (arith, many)) in
+      let next = code-at b (omega (arith, many)) in
+      let less : number_of (block_leaf frame heads a) < number_of (block_leaf frame heads b) =
+      elim (cases_lt (slice_index codes a) (slice_index codes b)) [
+        | inl lower ↦ omega (arith, many)
+        | inr not ↦ let later : a < b = before.tied (omega (arith, before.low)) in omega (arith, before.low)
+      ] in
+      rw (
+        get_or-map (block_leaf frame heads) (leaf_order codes) k 0 (block_leaf frame heads 0) (omega arith),
+        get_or-map (block_leaf frame heads) (leaf_order codes) (k + 1) 0 (block_leaf frame heads 0) (omega arith),
+      ) (grind (arith, nat_tests)))
+
+  -- leaves that are sorted by their numbers are those of the places in leaf order
+  pub sorted_leaves : length heads ≤ MAX_OBJECTS → (sorted : List LeafView) → IsPermutation leaves_from sorted →
+      IsSortedByKey number_of nat_cmp sorted → sorted ≡ in_order
+  sorted_leaves few sorted moved up =
+      let placed : IsPermutation leaves_from in_order =
+      subst (λ n. IsPermutation (map (block_leaf frame heads) (range_with_len 0 n)) in_order) many
+      (IsPermutation-map (block_leaf frame heads) (range_with_len 0 (length codes)) (leaf_order codes)
+      (IsPermutation-leaf_order codes)) in
+      same_from_sorted (on_total number_of nat_cmp_total) in_order sorted (rising-leaves few)
+      (IsPermutation-trans in_order leaves_from sorted (IsPermutation-sym leaves_from in_order placed) moved) up
+
+  -- the places of leaves, and their numbers in leaf order
+  pub places-leaves : (places : List ℕ) → map (λ leaf. leaf.place) (map (block_leaf frame heads) places) ≡ places
+  places-leaves places = map-back (block_leaf frame heads) (λ leaf. leaf.place) places (λ k d within. refl)
+
+  pub codes-leaves : map (λ leaf. leaf.code) in_order ≡ leaf_codes codes
+  unfolding leaf_codes
+  codes-leaves =
+      map-map (λ (leaf : LeafView). leaf.code) (block_leaf frame heads) (leaf_order codes)
+      ∙ map_alike (λ place. (block_leaf frame heads place).code) (slice_index codes) (leaf_order codes) (λ k d within.
+      let low : get_or (leaf_order codes) k d < length codes = leaf_order-within codes k d within in
+      sym (code-at (get_or (leaf_order codes) k d) (omega (arith, many))))
+
+-- a period without a header has presence bits alone
+pub period_with-none : (frame : Frame) (objects : ℕ) (heads : List Head) (lengths : List ℕ) → length heads ≡ 0 →
+    length lengths ≡ length heads → without_blocks (presence_of objects heads) ≡ period_with frame objects heads lengths
+unfolding leaf_order leaf_codes distinct_codes ends_of ordered
+period_with-none frame objects [] [] none same = rw (morton_bits-none (widths_in frame)) refl
+period_with-none frame objects [] (long ∷ lengths) none same = absurd (omega arith)
+period_with-none frame objects (head ∷ heads) lengths none same = absurd (omega arith)

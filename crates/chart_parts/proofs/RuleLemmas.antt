@@ -1,13 +1,16 @@
--- The rules of a chart's parts are sound: each of them stands for a part of some block's values.
-use Rattle.std.proofs.Common.{◌≡◌, ℕ, ◌+◌, ◌-◌, ◌*◌, ◌<◌, ◌≤◌, List, [], ◌∷◌, ◌++◌, length, All}
-use Rattle.std.proofs.Common.{sym, subst, arith, refl, inl, inr}
+-- The alphabet, the rules and the symbols of a chart's parts are sound and have the form of an index: each rule stands
+-- for a part of some block's values.
+use Rattle.std.proofs.Common.{◌≡◌, ℕ, ◌+◌, ◌-◌, ◌*◌, ◌<◌, ◌≤◌, List, [], ◌∷◌, ◌++◌, length, All, sym, subst, arith, refl, inl, inr, zero, suc, ◌^◌, lit<}
 use Rattle.std.specs.Prelude.{slice_index}
 use Rattle.std.specs.List.{AllByRecursion, Contains, flat_map}
+use Rattle.std.specs.List.Sorted.{IsStrictlyIncreasing}
 use Rattle.std.proofs.lemmas.Int.{ints}
 use Rattle.std.proofs.lemmas.List.{length-append}
-use Rattle.std.proofs.lemmas.List.Elements.{All-from_recursion, All-weaker, Contains-get_or}
+use Rattle.std.proofs.lemmas.List.Elements.{All-from_recursion, All-weaker, Contains-get_or, All-contains_itself, All-from_get_or}
+use Rattle.std.proofs.lemmas.List.Concat.{length-flat_map}
 use Rattle.list_laws.proofs.FlatLemmas.{All-flat_map}
 use Rattle.list_laws.proofs.MemberLemmas.{member_cases, member_of_flat_map, member_of_map, no_member}
+use Rattle.list_laws.proofs.NumberLemmas.{least_power}
 use Rattle.track_types.specs.Chart.{ChartView, IsChart}
 use Rattle.track_types.specs.Quantities.{first_of, period_of}
 use Rattle.track_types.specs.declared.cell.Cell.{Cell}
@@ -16,24 +19,29 @@ use Rattle.track_types.specs.declared.row.Row.{Row}
 use Rattle.rule_store.specs.Cells.{displacement_of, moved, movement_of}
 use Rattle.rule_store.specs.Entry.{entry_of, entry_with}
 use Rattle.rule_store.specs.Expansion.{values_of}
-use Rattle.rule_store.specs.Flaws.{rule_parts}
+use Rattle.rule_store.specs.Flaws.{rule_parts, reach_limit}
 use Rattle.rule_store.specs.Log.{log_values}
 use Rattle.rule_store.specs.View.{RulesView}
 use Rattle.rule_store.proofs.ExpansionLemmas.{values_of-rule}
 use Rattle.movement_log.specs.Logs.{alphabet_of, block_anchors, logged_values, logs_of, values_after}
-use Rattle.movement_log.proofs.AlphabetLemmas.{member_of_ascending_of}
+use Rattle.movement_log.proofs.AlphabetLemmas.{member_of_ascending_of, IsStrictlyIncreasing-ascending_of}
 use Rattle.movement_log.proofs.CutLemmas.{length-values_after}
 use Rattle.repair_grammar.specs.RePair.{AreBelow}
 use Rattle.repair_grammar.proofs.UsedLemmas.{holds_of_rules}
 use Rattle.snapshots.specs.Parts.{rules_in}
 use Rattle.snapshots.specs.SoundParts.{AreSoundRules, IsInReach, IsRule, IsShortEntry}
+use Rattle.spiral_code.specs.Spiral.{square}
+use Rattle.spiral_code.proofs.SpiralLemmas.{move_of-below}
+use Rattle.track_types.specs.Limits.{limit_of}
+use Rattle.track_types.specs.Shape.{AreLong, AreShort, AreShortPairs, width_for, symbol_width}
+use Rattle.track_types.specs.declared.limit.LimitKind.TheVariants.{Symbols}
+use Rattle.track_types.specs.declared.limit.TheConstants.{MAX_HEIGHT}
+use Rattle.rule_store.proofs.FlawLemmas.{reach_limit-high}
 use Rattle.chart_parts.specs.Header.{frame_of}
 use Rattle.chart_parts.specs.PartsOf.{grammar_of, compressed_parts_of}
-use Rattle.chart_parts.proofs.AlongLemmas.{IsAlong, IsAlong-back, IsAlong-front, IsInFrame}
-use Rattle.chart_parts.proofs.AlongLemmas.{IsBoxInReach-along, IsInReach-along}
-use Rattle.chart_parts.proofs.BlockGridLemmas.{IsAlong-block}
-use Rattle.chart_parts.proofs.GrammarLemmas.{IsGrammarOf-chart}
-use Rattle.chart_parts.proofs.ValueLemmas.{anchored_log, log-values, logged_anchor}
+use Rattle.chart_parts.proofs.AlongLemmas.{IsAlong, IsAlong-back, IsAlong-front, IsInFrame, IsBoxInReach-along, IsInReach-along, IsAlong-block}
+use Rattle.chart_parts.proofs.GrammarLemmas.{IsGrammarOf-chart, anchored_log, log-values, logged_anchor, length-alphabet_of, few_terminals}
+use Rattle.chart_parts.proofs.HeaderLemmas.{IsFrame-frame_of}
 
 -- at most so many values lead from some cell of the grid only to cells of it
 record IsStay (frame : Frame) (most : ℕ) (values : List ℕ) : Type 0 where
@@ -190,3 +198,80 @@ module _ (chart : ChartView) (is : IsChart chart) where
     rules_are = λ j within. IsRule-chart j within;
     symbols = λ i within. symbols_below i 0 within;
   }
+
+-- a movement stays within the greatest grid, so that its value fits 64 bits
+pub value-long : (height value : ℕ) → height ≤ MAX_HEIGHT → IsInReach height (movement_of value).0 (movement_of value).1 →
+    value < 2 ^ 64
+value-long height zero high reach = omega arith
+value-long height (suc code) high reach =
+    let near = reach_limit-high height high in
+    let below : code < square (2 * reach_limit MAX_HEIGHT + 1) =
+    (move_of-below code (reach_limit MAX_HEIGHT)).1 (omega arith) in
+    let few : suc (square (2 * reach_limit MAX_HEIGHT + 1)) < 2 ^ 64 = lit< tt in
+    omega (arith, below, few)
+
+module _ (chart : ChartView) where
+  -- the alphabet ascends
+  pub IsStrictlyIncreasing-alphabet : IsStrictlyIncreasing (compressed_parts_of chart).alphabet
+  unfolding compressed_parts_of logs_of alphabet_of
+  IsStrictlyIncreasing-alphabet =
+      IsStrictlyIncreasing-ascending_of (flat_map (λ values. values) (logged_values chart))
+
+  module _ (is : IsChart chart) where
+    -- its values fit 64 bits
+    pub AreLong-alphabet : AreLong (compressed_parts_of chart).alphabet
+    unfolding compressed_parts_of logs_of
+    AreLong-alphabet =
+        let high : (frame_of chart).height ≤ MAX_HEIGHT = (IsFrame-frame_of chart is).limit in
+        All-weaker (Contains (alphabet_of chart)) (λ value. value < 2 ^ 64)
+        (λ value inside. value-long (frame_of chart).height value high (IsInReach-alphabet chart is value inside))
+        (alphabet_of chart) (All-contains_itself (alphabet_of chart))
+
+    -- it has no more values than there may be symbols
+    pub few_values : length (compressed_parts_of chart).alphabet ≤ limit_of Symbols
+    unfolding compressed_parts_of logs_of
+    few_values = length-alphabet_of chart is
+
+    -- there are no more rules than there may be symbols
+    pub few_rules : length (compressed_parts_of chart).rules ≤ limit_of Symbols
+    unfolding compressed_parts_of
+    few_rules = omega (arith, (IsGrammarOf-chart chart).few, few_terminals chart is)
+
+    -- the parts of rules fit 32 bits
+    pub AreShortPairs-rules : AreShortPairs (compressed_parts_of chart).rules
+    unfolding compressed_parts_of logs_of
+    AreShortPairs-rules =
+        All-from_get_or (λ pair. (pair.0 < 2 ^ 32) × (pair.1 < 2 ^ 32)) (grammar_of chart).rules (0, 0)
+        (λ rule within.
+        let below = (IsGrammarOf-chart chart).parts rule within in
+        (omega (arith, below.0, few_values, few_rules), omega (arith, below.1, few_values, few_rules)))
+
+    -- the logs have no more symbols than there may be
+    pub few_symbols : length (compressed_parts_of chart).symbols ≤ limit_of Symbols
+    unfolding compressed_parts_of
+    few_symbols =
+        omega (
+          arith,
+          length-flat_map (λ (log : List ℕ). log) (grammar_of chart).blocks,
+          (IsGrammarOf-chart chart).few,
+          few_terminals chart is,
+        )
+
+    -- these fit 32 bits
+    pub AreShort-symbols : AreShort (compressed_parts_of chart).symbols
+    unfolding compressed_parts_of logs_of
+    AreShort-symbols =
+        All-weaker (λ symbol. symbol < length (alphabet_of chart) + length (grammar_of chart).rules)
+        (λ symbol. symbol < 2 ^ 32) (λ symbol below. omega (arith, few_values, few_rules))
+        (flat_map (λ log. log) (grammar_of chart).blocks)
+        (symbols_below chart is)
+
+    -- so many bits are enough for each of them
+    pub narrow_symbols : All (λ symbol. symbol < 2 ^ symbol_width (compressed_parts_of chart)) (compressed_parts_of chart).symbols
+    unfolding compressed_parts_of logs_of width_for
+    narrow_symbols =
+        let known : ℕ = length (alphabet_of chart) + length (grammar_of chart).rules in
+        let fits = least_power 26 known (omega arith) (omega (arith, few_values, few_rules)) in
+        All-weaker (λ symbol. symbol < known) (λ symbol. symbol < 2 ^ width_for known)
+        (λ symbol below. omega (arith, below, fits.1)) (flat_map (λ log. log) (grammar_of chart).blocks)
+        (symbols_below chart is)

@@ -1,14 +1,14 @@
--- The period of a chart's parts is a sound snapshot.
-use Rattle.std.proofs.Common.{All, ◌≡◌, ℕ, ◌+◌, ◌-◌, ◌*◌, ◌/◌, ◌%◌, ◌^◌, ◌<◌, ◌≤◌, List, length, map, get_or}
-use Rattle.std.proofs.Common.{refl, sym, ap, ◌∙◌, arith, subst}
-use Rattle.std.specs.Prelude.{min, slice_index}
+-- Each period of a chart's parts is a sound snapshot, and shaped: its lists are as long as the presence bits say.
+use Rattle.std.proofs.Common.{All, ◌≡◌, ℕ, ◌+◌, ◌-◌, ◌*◌, ◌/◌, ◌%◌, ◌^◌, ◌<◌, ◌≤◌, List, length, map, get_or, refl, sym, ap, ◌∙◌, arith, subst, filter}
+use Rattle.std.specs.Prelude.{min, slice_index, ◌==◌}
 use Rattle.std.specs.List.{Contains}
 use Rattle.std.proofs.Math.Nat.{div-add-mod}
 use Rattle.std.proofs.lemmas.List.{length-map}
-use Rattle.std.proofs.lemmas.List.Elements.{All-contains, All-contains_itself, All-map, All-weaker}
+use Rattle.std.proofs.lemmas.List.Elements.{All-contains, All-contains_itself, All-map, All-weaker, All-filter, Contains-get_or}
+use Rattle.std.proofs.lemmas.List.FromFn.{get_or-range_with_len, length-range_with_len}
 use Rattle.track_types.specs.Chart.{ChartView, IsChart}
 use Rattle.track_types.specs.Frame.{instants_in, periods_of, wide_of}
-use Rattle.track_types.specs.Quantities.{elapsed, first_of, span_of}
+use Rattle.track_types.specs.Quantities.{elapsed, first_of, span_of, objects_of, period_count}
 use Rattle.track_types.specs.declared.cell.Cell.{Cell}
 use Rattle.track_types.specs.declared.frame.Frame.{Frame}
 use Rattle.track_types.proofs.QuantityLemmas.{elapsed-span}
@@ -21,18 +21,22 @@ use Rattle.k2_tree.proofs.CellLemmas.{codes_back, tree_of-StandsFor}
 use Rattle.k2_tree.proofs.MortonLemmas.{cell_of-inside, morton_of-lt}
 use Rattle.snapshots.specs.View.{SnapshotView, view_with, widths_in}
 use Rattle.snapshots.specs.Sound.{IsSoundPeriod}
-use Rattle.snapshots.specs.Parts.{snapshot_in, start_in}
+use Rattle.snapshots.specs.Parts.{snapshot_in, start_in, numbers_in}
 use Rattle.movement_log.specs.Logs.{anchors_in}
-use Rattle.chart_parts.specs.Header.{frame_of}
-use Rattle.chart_parts.specs.LeafOrder.{distinct_codes, leaf_codes, leaf_order}
-use Rattle.chart_parts.specs.PartsOf.{anchor_codes, compressed_parts_of, period_of_chart}
 use Rattle.snapshots.proofs.SoundLemmas.{IsGrid-frame, wide_of-fits}
-use Rattle.chart_parts.proofs.HeaderLawLemmas.{IsFrame-frame_of}
-use Rattle.chart_parts.proofs.LeafEndLemmas.{All-distinct_codes, Rises-distinct_codes, distinct_codes-at_rank}
-use Rattle.chart_parts.proofs.LeafEndLemmas.{ends_of-last, ones_of-leaf_ends}
-use Rattle.chart_parts.proofs.LeafOrderLemmas.{PermutesPlaces-leaf_order, leaf_order-before, length-leaf_order}
-use Rattle.chart_parts.proofs.LogSliceLemmas.{period_at-compressed_parts_of}
-use Rattle.chart_parts.proofs.PeriodAnchorLemmas.{IsAnchorIn-member}
+use Rattle.bit_rank.proofs.RankLemmas.{ones_of-le-length}
+use Rattle.track_types.specs.Shape.{AreShort, IsShapedPeriod}
+use Rattle.k2_tree.proofs.BuiltLemmas.{few_bits}
+use Rattle.chart_parts.specs.Header.{frame_of}
+use Rattle.chart_parts.specs.LeafOrder.{distinct_codes, leaf_codes, leaf_order, ends_of}
+use Rattle.chart_parts.specs.PartsOf.{anchor_codes, compressed_parts_of, period_of_chart, grammar_of, is_present, logs_in, logged_anchors}
+use Rattle.chart_parts.proofs.HeaderLemmas.{IsFrame-frame_of}
+use Rattle.chart_parts.proofs.LeafEndLemmas.{All-distinct_codes, Rises-distinct_codes, distinct_codes-at_rank, ends_of-last, ones_of-leaf_ends, length-ends_of}
+use Rattle.chart_parts.proofs.LeafOrderLemmas.{PermutesPlaces-leaf_order, leaf_order-before, length-leaf_order, leaf_order-within, length-leaf_codes}
+use Rattle.chart_parts.proofs.LogLemmas.{period_at-compressed_parts_of, length-logs_in, periods_of-frame_of, row_period}
+use Rattle.chart_parts.proofs.PresenceLemmas.{IsAnchorIn-member, ones_of-present, few_anchors}
+use Rattle.chart_parts.proofs.GrammarLemmas.{IsShortLog, logged_anchor, short_logs}
+use Rattle.track_types.specs.declared.row.Row.{Row}
 
 -- how many instants come before one in its period
 offset_below : (before period span number : ℕ) → 0 < period → before / period ≡ number → before < span →
@@ -162,3 +166,76 @@ module _ (chart : ChartView) (is : IsChart chart) (number : ℕ) where
   -- each period of a chart's parts is sound
   pub IsSoundPeriod-period : number < periods_of (frame_of chart) → IsSoundPeriod (snapshot_in (compressed_parts_of chart) number)
   IsSoundPeriod-period below = subst IsSoundPeriod (sym (snapshot_in-compressed_parts_of below)) IsSoundPeriod-own
+
+  module _ (below : number < periods_of (frame_of chart)) where
+    abbrev objects : ℕ
+    objects = length (objects_of chart.rows)
+
+    -- there are no more different cells of anchors than objects
+    pub few_distinct : length (distinct_codes codes) ≤ length (objects_of chart.rows)
+    few_distinct =
+        omega (
+          arith,
+          ones_of-leaf_ends codes,
+          ones_of-le-length (ends_of (leaf_codes codes)),
+          length-ends_of (leaf_codes codes),
+          length-leaf_codes codes,
+          length-anchor_codes chart number,
+          few_anchors chart is number,
+        )
+
+    -- each offset is below the length of a period
+    short_offsets : AreShort (period_of_chart chart number).offsets
+    short_offsets =
+        All-weaker (λ offset. offset < instants_in (frame_of chart) number) (λ offset. offset < 2 ^ 32)
+        (λ offset low. let limit = (IsFrame-frame_of chart is).periods.limit in omega arith)
+        (period_of_chart chart number).offsets IsSoundPeriod-own.offsets
+
+    -- no log is long
+    short_lengths : AreShort (map length (logs_in chart number))
+    unfolding logs_in
+    short_lengths =
+        let second : Row × List ℕ → List ℕ = λ block. block.1 in
+        All-map (λ n. n < 2 ^ 32) length (logs_in chart number)
+        (All-map IsShortLog second (filter (λ block. row_period chart block.0 == number) (logged_anchors chart))
+        (All-filter (λ block. row_period chart block.0 == number) (λ block. IsShortLog block.1) (logged_anchors chart)
+        (λ k d within. All-contains IsShortLog (grammar_of chart).blocks (get_or (logged_anchors chart) k d).1
+        (short_logs chart is)
+        (logged_anchor chart _ _ (Contains-get_or (logged_anchors chart) k d within)).1)))
+
+    -- the parts of a period are shaped
+    pub IsShapedPeriod-own : IsShapedPeriod objects (period_of_chart chart number)
+    unfolding period_of_chart
+    IsShapedPeriod-own =
+        let ones = ones_of-present chart is number in
+        let counted : number < period_count chart.rows chart.period = omega (arith, periods_of-frame_of chart) in
+        let order = length-leaf_order codes in
+        record {
+          presence = length-map (objects_of chart.rows) (is_present chart number);
+          offsets = length-map (anchors_in chart number) _ ∙ sym ones;
+          bits = few_bits (frame_of chart).height (wide_of (frame_of chart)) (distinct_codes codes)
+              (IsFrame-frame_of chart is).limit (wide_of-fits (frame_of chart))
+              (let few = is.objects in omega (arith, few_distinct));
+          lasts = length-ends_of (leaf_codes codes) ∙ length-leaf_codes codes ∙ length-anchor_codes chart number
+              ∙ sym ones;
+          perm = order ∙ length-anchor_codes chart number ∙ sym ones;
+          lengths = length-map (logs_in chart number) length ∙ length-logs_in chart number counted ∙ sym ones;
+          short_offsets = short_offsets;
+          short_perm =
+              All-weaker (λ place. place < length codes) (λ place. place < 2 ^ 32)
+              (λ place low. let few = is.objects in omega (arith, length-anchor_codes chart number, few_anchors chart is number))
+              (leaf_order codes) (leaf_order-within codes);
+          short_lengths = short_lengths;
+        }
+
+-- each period of a chart's parts is shaped
+pub shaped-periods : (chart : ChartView) → IsChart chart →
+    All (IsShapedPeriod (length (objects_of chart.rows))) (compressed_parts_of chart).periods
+unfolding compressed_parts_of
+shaped-periods chart is =
+    let count : ℕ = periods_of (frame_of chart) in
+    All-map (IsShapedPeriod (length (objects_of chart.rows))) (period_of_chart chart) (numbers_in (frame_of chart))
+    (λ k d within.
+    let long = length-range_with_len 0 count in
+    let its = get_or-range_with_len 0 count k d (omega arith) in
+    IsShapedPeriod-own chart is (get_or (numbers_in (frame_of chart)) k d) (omega (arith, its)))

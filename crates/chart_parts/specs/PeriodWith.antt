@@ -12,9 +12,9 @@ use Rattle.k2_tree.specs.TreeBits.{morton_bits}
 use Rattle.movement_log.specs.Logs.{logs_of}
 use Rattle.snapshots.specs.View.{widths_in}
 use Rattle.movement_log.specs.declared.head.Head.{Head}
+use Rattle.chart_parts.specs.Leaf.{LeafView}
 use Rattle.chart_parts.specs.LeafOrder.{distinct_codes, ends_of, leaf_codes, leaf_order}
 use Rattle.chart_parts.specs.PartsOf.{grammar_of}
-use Rattle.chart_parts.specs.declared.leaves.Leaf.{Leaf}
 use Rattle.chart_parts.specs.declared.writing.Blocks.{Blocks}
 
 -- the blocks of a chart: their alphabet, their headers, and the rules and logs of the grammar
@@ -95,7 +95,7 @@ abbrev pub cell_of_head : List Head → ℕ → Cell
 cell_of_head heads place = (slice_index_or heads place no_head).cell
 
 -- the leaf of the block at a place
-abbrev pub block_leaf : Frame → List Head → ℕ → Leaf
+abbrev pub block_leaf : Frame → List Head → ℕ → LeafView
 block_leaf frame heads place = record {
   code = morton_of frame.height frame.base (cell_of_head heads place);
   place = place;

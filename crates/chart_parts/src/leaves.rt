@@ -6,19 +6,11 @@ ghost use Rattle.snapshots.specs.View.{widths_in};
 ghost use Rattle.k2_tree.specs.TreeBits.{Rises, morton_bits};
 ghost use Rattle.track_types.specs.declared.limit.TheConstants.{MAX_HEIGHT, MAX_OBJECTS};
 
+use crate::leaf::Leaf;
 use k2_tree::{bits_of_codes, morton};
 use movement_log::Head;
 use std::alloc::{AllocError, Global};
 use track_types::{BitList, Frame, Memory};
-
-/// A block as a leaf of its period's tree.
-#[derive(Clone, Copy)]
-pub(crate) struct Leaf {
-    /// The Morton number of the anchor's cell.
-    pub(crate) code: u64,
-    /// The block's place in its period, by object.
-    pub(crate) place: u32,
-}
 
 /// The leaves of a period's blocks, by Morton number, then by object.
 pub(crate) fn leaves_of(
@@ -32,8 +24,8 @@ pub(crate) fn leaves_of(
     ensures few { IfOk result (λ leaves. length leaves.items ≡ length heads.now) }
 {
     let mut leaves = leaves_by_object(alloc, frame, heads)?;
-    // A stable sort: the blocks of one cell stay in the order of their objects.
-    leaves.sort_by_key(|leaf| leaf.code)?;
+    // By place too, so that the blocks of one cell stand in the order of their objects.
+    leaves.sort_unstable_by_key(|leaf| leaf.number());
     Ok(leaves)
 }
 
@@ -46,10 +38,7 @@ fn leaves_by_object(alloc: Global, frame: Frame, heads: &[Head]) -> Result<Vec<L
     let mut leaves = Vec::with_capacity(alloc, heads.len())?;
     for place in 0..heads.len() {
         let code = morton(heads[place].cell, frame.height, frame.base);
-        leaves.push(Leaf {
-            code,
-            place: place as u32,
-        })?;
+        leaves.push(Leaf::new(code, place as u32))?;
     }
     Ok(leaves)
 }
@@ -58,7 +47,7 @@ fn leaves_by_object(alloc: Global, frame: Frame, heads: &[Head]) -> Result<Vec<L
 pub(crate) fn places_of(alloc: Global, leaves: &[Leaf]) -> Result<Vec<u32>, AllocError>
     ensures { IfOk result (λ places. places.items ≡ map (λ leaf. leaf.place) leaves.now) }
 {
-    leaves.iter().map(|leaf| leaf.place).collect(alloc)
+    leaves.iter().map(|leaf| leaf.place()).collect(alloc)
 }
 
 /// A bit for each leaf: whether it is the last of its cell.
@@ -78,7 +67,7 @@ fn is_end(leaves: &[Leaf], place: usize) -> bool
     requires { place < length leaves.now }
     ensures { result ≡ is_end (map (λ leaf. leaf.code) leaves.now) place }
 {
-    place + 1 == leaves.len() || leaves[place].code != leaves[place + 1].code
+    place + 1 == leaves.len() || leaves[place].code() != leaves[place + 1].code()
 }
 
 /// The bits of the tree of the leaves' cells, each once.
@@ -90,7 +79,7 @@ pub(crate) fn tree_of(alloc: Global, frame: Frame, leaves: Vec<Leaf>) -> Result<
         ≡ morton_bits (widths_in frame) (dedup (λ a b. a == b) (map (λ leaf. leaf.code) leaves.items))) }
 {
     let mut leaves = leaves;
-    leaves.dedup_by_key(|leaf| leaf.code);
+    leaves.dedup_by_key(|leaf| leaf.code());
     let codes = codes_of(alloc, leaves.as_slice())?;
     let wide = frame.wide_levels();
     bits_of_codes(alloc, codes.as_slice(), frame.height, wide)
@@ -100,5 +89,5 @@ pub(crate) fn tree_of(alloc: Global, frame: Frame, leaves: Vec<Leaf>) -> Result<
 fn codes_of(alloc: Global, leaves: &[Leaf]) -> Result<Vec<u64>, AllocError>
     ensures { IfOk result (λ codes. codes.items ≡ map (λ leaf. leaf.code) leaves.now) }
 {
-    leaves.iter().map(|leaf| leaf.code).collect(alloc)
+    leaves.iter().map(|leaf| leaf.code()).collect(alloc)
 }

@@ -6,6 +6,7 @@
 #![tactic(auto)]
 
 mod header;
+mod leaf;
 mod leaves;
 mod objects;
 mod periods;

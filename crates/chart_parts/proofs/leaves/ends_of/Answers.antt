@@ -4,7 +4,7 @@ use Rattle.std.proofs.lemmas.List.{length-map}
 use Rattle.std.proofs.lemmas.List.FromFn.{length-map-range_with_len, map-range_with_len_more}
 use Rattle.chart_parts.specs.LeafOrder.{ends_of}
 use Rattle.chart_parts.specs.PeriodWith.{is_end}
-use Rattle.chart_parts.proofs.LeafEndBodyLemmas.{ends_of-map}
+use Rattle.chart_parts.proofs.LeafEndLemmas.{ends_of-map}
 use Rattle.chart_parts.proofs.leaves.ends_of.Goals as goal
 
 pub loop-place-preserved : goal.loop-place-preserved

@@ -4,7 +4,7 @@ use Rattle.std.specs.List.{dedup}
 use Rattle.std.proofs.lemmas.Fn.{dedup_same}
 use Rattle.list_laws.proofs.DedupLemmas.{map-dedup}
 use Rattle.snapshots.proofs.SoundLemmas.{wide_of-fits}
-use Rattle.chart_parts.specs.declared.leaves.Leaf.{Leaf}
+use Rattle.chart_parts.specs.Leaf.{LeafView}
 use Rattle.chart_parts.proofs.leaves.tree_of.Goals as goal
 use Rattle.chart_parts.proofs.leaves.tree_of.Goals.{After-as_slice-2}
 
@@ -12,7 +12,7 @@ use Rattle.chart_parts.proofs.leaves.tree_of.Goals.{After-as_slice-2}
 codes_are : (c : After-as_slice-2)
     → c.as_slice-2.result.now ≡ dedup (λ a b. a == b) (map (λ leaf. leaf.code) c.args.leaves.items)
 codes_are c =
-    let kept = dedup_same _ (λ (a b : Leaf). a.code == b.code) _
+    let kept = dedup_same _ (λ (a b : LeafView). a.code == b.code) _
     (λ x y b f' x' y' k. search rules) _ _ c.dedup_by_key.ensures.filtered in
     c.as_slice-2.ensures.value ∙ c.in_ok-codes.ensures
     ∙ ap (map (λ leaf. leaf.code)) (c.as_slice.ensures.value ∙ kept)

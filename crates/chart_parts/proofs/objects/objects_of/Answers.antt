@@ -3,7 +3,7 @@ use Rattle.std.proofs.lemmas.List.{append_assoc, append-nil}
 use Rattle.list_laws.proofs.PartLemmas.{IsStrictlySortedBy-drop}
 use Rattle.track_types.specs.declared.row.Row.{Row}
 use Rattle.track_types.specs.Row.{row_order}
-use Rattle.chart_parts.proofs.ObjectListLemmas.{no_objects, objects_of-first}
+use Rattle.chart_parts.proofs.ObjectLemmas.{no_objects, objects_of-first}
 use Rattle.chart_parts.proofs.objects.objects_of.Goals as goal
 
 pub loop-left-preserved : goal.loop-left-preserved

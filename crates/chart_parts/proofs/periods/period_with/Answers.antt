@@ -6,7 +6,7 @@ use Rattle.snapshots.specs.View.{widths_in}
 use Rattle.chart_parts.specs.LeafOrder.{distinct_codes, ends_of, leaf_codes, leaf_order}
 use Rattle.chart_parts.specs.PeriodWith.{codes_of_heads, without_blocks}
 use Rattle.chart_parts.proofs.LeafEndLemmas.{Rises-distinct_codes}
-use Rattle.chart_parts.proofs.PeriodPartLemmas.{codes-leaves, period_with-none, places-leaves}
+use Rattle.chart_parts.proofs.LeafOrderLemmas.{codes-leaves, period_with-none, places-leaves}
 use Rattle.chart_parts.proofs.periods.period_with.Goals as goal
 
 pub returns-then-is_empty : goal.returns-then-is_empty

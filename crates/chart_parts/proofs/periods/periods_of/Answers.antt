@@ -3,7 +3,7 @@ use Rattle.std.specs.List.{zip}
 use Rattle.std.proofs.lemmas.List.{length-drop}
 use Rattle.std.proofs.lemmas.List.FromFn.{map-range_with_len_more}
 use Rattle.chart_parts.specs.PeriodWith.{period_of_blocks}
-use Rattle.chart_parts.proofs.BlockRunLemmas.{behind_next, behind_none, heads-next, indexes_in, lengths-next, placed_in}
+use Rattle.chart_parts.proofs.PeriodLemmas.{behind_next, behind_none, heads-next, indexes_in, lengths-next, placed_in}
 use Rattle.chart_parts.proofs.periods.periods_of.Goals as goal
 
 pub loop-number-init : goal.loop-number-init

@@ -1,7 +1,7 @@
 use Rattle.std.proofs.Common.{◌≡◌, ◌≤◌, length, map}
 use Rattle.std.specs.List.{range_with_len, zip}
 use Rattle.chart_parts.specs.PeriodWith.{period_of_blocks}
-use Rattle.chart_parts.proofs.BlockRunLemmas.{IsBehind}
+use Rattle.chart_parts.proofs.PeriodLemmas.{IsBehind}
 use Rattle.chart_parts.proofs.periods.periods_of.Given as goal
 
 abbrev pub invariant-loop-number : goal.invariant-loop-number

@@ -3,7 +3,7 @@ use Rattle.std.specs.Prelude.{slice_set}
 use Rattle.std.proofs.Math.Seq.{take-suc}
 use Rattle.std.proofs.lemmas.List.{take_all}
 use Rattle.chart_parts.specs.PeriodWith.{no_head, presence_of}
-use Rattle.chart_parts.proofs.PresenceBitLemmas.{presence_from-none, presence_of-snoc}
+use Rattle.chart_parts.proofs.PresenceLemmas.{presence_from-none, presence_of-snoc}
 use Rattle.chart_parts.proofs.presence.presence_of.Goals as goal
 
 pub loop-head-init : goal.loop-head-init

@@ -8,8 +8,8 @@ use Rattle.chart_parts.specs.Cut.{IsCutOf}
 use Rattle.chart_parts.specs.Header.{frame_of}
 use Rattle.chart_parts.specs.PartsOf.{grammar_of, compressed_parts_of, period_of_chart}
 use Rattle.chart_parts.specs.PeriodWith.{chart_blocks}
-use Rattle.chart_parts.proofs.OwnBlockLemmas.{AreBlocksByPeriod-own, short_logs}
-use Rattle.chart_parts.proofs.OwnPeriodLemmas.{as_many-lengths, own_lengths, periods_are}
+use Rattle.chart_parts.proofs.GrammarLemmas.{short_logs}
+use Rattle.chart_parts.proofs.PeriodLemmas.{AreBlocksByPeriod-own, as_many-lengths, own_lengths, periods_are}
 use Rattle.chart_parts.proofs.writing.compressed_parts.Goals as goal
 use Rattle.chart_parts.proofs.writing.compressed_parts.Goals.{After-as_slice, After-as_slice-3}
 

@@ -2,7 +2,7 @@ use Rattle.std.proofs.Common.{◌≡◌, IfOk, subst, sym}
 use Rattle.snapshots.specs.SoundParts.{IsValid}
 use Rattle.parts_order.specs.SettledParts.{settled_parts}
 use Rattle.chart_parts.specs.PartsOf.{parts_of}
-use Rattle.chart_parts.proofs.ValidLemmas.{IsValid-compressed_parts_of}
+use Rattle.chart_parts.proofs.PartsLemmas.{IsValid-compressed_parts_of}
 use Rattle.chart_parts.proofs.writing.parts_of_cut.Goals as goal
 
 -- the parts are those of some chart, and so those of an index
