@@ -1,5 +1,7 @@
 -- A search at one instant: the symbols before it are passed, and of the two parts of a rule one has it.
-use Rattle.std.proofs.Common.{◌≡◌, ℕ, suc, drop, ◌+◌, ◌<◌, ◌≤◌, ℤ, ◌≤ℤ◌, ◌<ℤ◌, Bool, true, false, List, [], ◌∷◌, ◌++◌, length, filter, map, Option, Some, None, inl, inr, refl, ap, add-one, sym, subst, ◌∙◌, arith}
+use Rattle.std.proofs.Common.{◌≡◌, ℕ, suc, drop, ◌+◌, ◌<◌, ◌≤◌, ℤ, ◌≤ℤ◌, ◌<ℤ◌, ◌⊎◌, Bool, true, false, List, [], ◌∷◌, ◌++◌, length, filter, map, Option, Some, None, inl, inr, refl, ap, add-one, sym, subst, ◌∙◌, arith}
+use Rattle.std.specs.Bool.{if◌then◌else◌}
+use Rattle.std.specs.Int.Signed.{le_z}
 use Rattle.std.specs.Option.{is_some}
 use Rattle.std.specs.Prelude.{slice_index}
 use Rattle.std.proofs.Math.ListN.{drop_of_length-le}
@@ -11,6 +13,7 @@ use Rattle.std.proofs.lemmas.List.Elements.{filter-append}
 use Rattle.track_types.specs.Region.{in_region, is_between}
 use Rattle.track_types.specs.declared.region.Region.{Region}
 use Rattle.track_types.specs.declared.stop.Stop.{Stop}
+use Rattle.track_types.proofs.RegionLemmas.{le_z-is}
 use Rattle.rule_store.specs.View.{RulesView, symbols_in}
 use Rattle.rule_store.specs.Boxes.{bounding_box_of}
 use Rattle.rule_store.specs.Entry.{entry_of}
@@ -142,6 +145,21 @@ parted rules at instant symbol rule left_below right_below within =
       has = record { after = within.has.after; within = omega (arith, ints, sum, both, within.has.within) };
     }
 
+-- what is picked of two parts: where the left one begins, and it, if it reaches the instant
+abbrev pub IsPicked : Start → Start → ℤ → ℕ → ℕ → Start → ℕ → Type 0
+IsPicked at middle instant left right next symbol =
+    ((instant ≤ℤ middle.instant) × ((next ≡ at) × (symbol ≡ left)))
+    ⊎ ((middle.instant <ℤ instant) × ((next ≡ middle) × (symbol ≡ right)))
+
+pub picked-by : (at middle next : Start) (instant low high : ℤ) (left right symbol : ℕ) → low ≡ instant →
+    high ≡ middle.instant → next ≡ (if le_z low high then at else middle) →
+    symbol ≡ (if le_z low high then left else right) → IsPicked at middle instant left right next symbol
+picked-by at middle next instant low high left right symbol low_is high_is start one =
+    elim (cases_Bool (le_z low high)) [
+      | inl early ↦ inl (omega (arith, ints, le_z-is low high early, low_is, high_is), (rw early at start, rw early at one))
+      | inr late ↦ inr (grind (arith, ints, late, low_is, high_is), (rw late at start, rw late at one))
+    ]
+
 -- of two parts one has the instant
 module _ (rules : RulesView) (at : Start) (instant : ℤ) (left right : ℕ) (is : IsParted rules at instant left right)
     (entry : Entry) (entry_is : entry ≡ entry_of rules left) where
@@ -169,6 +187,13 @@ module _ (rules : RulesView) (at : Start) (instant : ℤ) (left right : ℕ) (is
       has = record { after = late; within = rw past_is (omega (arith, ints, is.has.within)) };
     }
 
+    pub picked-within : (next : Start) (symbol : ℕ) → IsPicked at middle instant left right next symbol →
+        IsWithin rules next instant symbol
+    picked-within next symbol picked = elim picked [
+      | inl early ↦ rw (early.1.0, early.1.1) (parted-left early.0)
+      | inr late ↦ rw (late.1.0, late.1.1) (parted-right late.0)
+    ]
+
     module _ (region : Region) where
       pub hit-left : instant ≤ℤ middle.instant →
           hit_left rules instant instant region at (left ∷ []) ≡ hit_left rules instant instant region at (left ∷ right ∷ [])
@@ -186,6 +211,21 @@ module _ (rules : RulesView) (at : Start) (instant : ℤ) (left right : ℕ) (is
       pub count-right : touching_left rules instant instant region middle (right ∷ [])
           ≤ touching_left rules instant instant region at (left ∷ right ∷ [])
       count-right = rw past_is (count-later rules instant region at left (right ∷ []))
+
+      module _ (next : Start) (symbol : ℕ) (picked : IsPicked at middle instant left right next symbol) where
+        pub picked-hit : hit_left rules instant instant region next (symbol ∷ [])
+            ≡ hit_left rules instant instant region at (left ∷ right ∷ [])
+        picked-hit = elim picked [
+          | inl early ↦ rw (early.1.0, early.1.1) (hit-left early.0)
+          | inr late ↦ rw (late.1.0, late.1.1) (hit-right late.0)
+        ]
+
+        pub picked-count : touching_left rules instant instant region next (symbol ∷ [])
+            ≤ touching_left rules instant instant region at (left ∷ right ∷ [])
+        picked-count = elim picked [
+          | inl early ↦ rw (early.1.0, early.1.1) count-left
+          | inr late ↦ rw (late.1.0, late.1.1) count-right
+        ]
 
 -- the only stop of an anchor is its own
 own_stop : (region : Region) (from to : ℤ) (stop found : Stop) →

@@ -14,3 +14,4 @@ pub mod SearchLemmas
 mod SeekLemmas
 mod Examples
 mod DescentLemmas
+mod FirstLemmas

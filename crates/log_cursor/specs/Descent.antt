@@ -1,5 +1,6 @@
 -- A search for the stop of a block at one instant, and what is left of it.
-use Rattle.std.specs.Prelude.{◌≡◌, ℕ, ◌+◌, ◌*◌, ◌<◌, ◌≤◌, max, ℤ, pos, ◌+ℤ◌, ◌<ℤ◌, ◌≤ℤ◌, Bool, true, false, List, [], ◌∷◌, drop, length, Option, Some, None, ⊤}
+use Rattle.std.specs.Prelude.{◌≡◌, ℕ, ◌+◌, ◌*◌, ◌<◌, ◌≤◌, max, ℤ, pos, ◌+ℤ◌, ◌<ℤ◌, ◌≤ℤ◌, Bool, true, false, List, [], ◌∷◌, drop, length, slice_get, if◌then◌else◌, Option, Some, None, ⊤}
+use Rattle.std.specs.Int.Signed.{le_z}
 use Rattle.track_types.specs.declared.region.Region.{Region}
 use Rattle.track_types.specs.declared.stop.Stop.{Stop}
 use Rattle.rule_store.specs.View.{RulesView, symbols_in}
@@ -128,6 +129,15 @@ stage_weight Missed = 0
 -- the same, of a whole search
 abbrev pub weight_of : Descent → ℕ
 weight_of descent = stage_weight descent.stage
+
+-- the first symbol of a log, where a search at an instant begins with it: the instant is after the anchor's
+unfoldable pub first_needed : List ℕ → Start → ℤ → Option ℕ
+first_needed log start instant = if le_z instant start.instant then None else slice_get log 0
+
+-- how many reads it takes
+abbrev pub first_reads : Option ℕ → ℕ
+first_reads None = 0
+first_reads (Some symbol) = 1
 
 -- What a search in a log has done: the symbols from a place on have the stop, for one read each, and no more rules are to
 -- be opened than in all.

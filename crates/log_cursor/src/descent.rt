@@ -5,6 +5,8 @@ ghost use Rattle.rule_store.specs.Log.{log_of};
 ghost use Rattle.rule_store.specs.View.{RulesView};
 ghost use Rattle.log_cursor.specs.Descent.{
   end_stage,
+  first_needed,
+  first_reads,
   hit_of,
   parted_of,
   reads_of,
@@ -49,32 +51,60 @@ pub struct Descent {
 }
 
 impl Descent {
-    /// The search in the symbol of a block's log that has the instant. It reads the symbols up to
-    /// this one, and none at an instant up to the anchor's.
+    /// The first symbol of a block's log, if a search at the instant begins with it: the instant is
+    /// after the anchor's. It is read, and its entry is not looked at. So whoever begins many searches
+    /// may have the first symbols of all their logs on the way from memory at once.
+    pub fn first_symbol<L: Ledger>(
+        view: LogView<'_>,
+        start: Start,
+        instant: i64,
+        steps: &mut Steps<L>,
+    ) -> Option<u32>
+        ensures value { result ≡ first_needed (log_of view.entry) start instant }
+        ensures cost { steps.new ≡ steps.old + first_reads result }
+    {
+        if instant <= start.instant || view.len() == 0 {
+            return None;
+        }
+        Some(view.entry(0, steps).symbol)
+    }
+
+    /// The search in the symbol of a block's log that has the instant. Its first symbol was read
+    /// before, if it is needed (`first_symbol`). It reads the symbols after it up to the one that has
+    /// the instant.
     pub fn begin<L: Ledger>(
         view: LogView<'_>,
         start: Start,
+        first: Option<u32>,
         instant: i64,
         test: &RegionTest,
         steps: &mut Steps<L>,
     ) -> Descent
-        requires { IsPlaced view.rules.now start (log_of view) }
+        requires placed { IsPlaced view.rules.now start (log_of view) }
+        requires first { first ≡ first_needed (log_of view) start instant }
         ensures sound { IsDescent view.entry.rules.now instant result }
         ensures hit { hit_of view.entry.rules.now instant test.now.region result
             ≡ first_hit_of view.entry.rules.now (log_of view.entry) start instant instant
             test.now.region }
-        ensures cost { steps.new + reads_of view.entry.rules.now instant test.now.region result
-            ≤ steps.old + (length (log_of view.entry) + touching_count view.entry.rules.now start
-            (log_of view.entry) instant instant test.now.region) }
+        ensures cost { steps.new + (first_reads first + reads_of view.entry.rules.now instant
+            test.now.region result) ≤ steps.old + (length (log_of view.entry) + touching_count
+            view.entry.rules.now start (log_of view.entry) instant instant test.now.region) }
     {
-        if instant <= start.instant {
+        let Some(first) = first else {
             let anchor = anchor_hit(start, instant, instant, test);
             return Descent::over(start, anchor.is_some());
-        }
+        };
         let rules = view.rules();
         let _ = rules.sizes(); // tells what holds of all rules, which bounds the instants
-        let mut at = start;
-        for i in 0..view.len() {
+        let entry = rules.entry(first);
+        let mut at = start.after(&entry);
+        if instant <= at.instant {
+            return Descent {
+                at: start,
+                stage: Stage::Within(entry.symbol),
+            };
+        }
+        for i in 1..view.len() {
             let entry = view.entry(i, steps);
             let next = at.after(&entry);
             if instant <= next.instant {
@@ -166,16 +196,10 @@ impl Descent {
             return self;
         };
         let middle = self.at.after(&rules.entry(left));
-        if instant <= middle.instant {
-            Descent {
-                at: self.at,
-                stage: Stage::Within(left),
-            }
-        } else {
-            Descent {
-                at: middle,
-                stage: Stage::Within(right),
-            }
+        let is_left = instant <= middle.instant;
+        Descent {
+            at: pick_start(is_left, self.at, middle),
+            stage: Stage::Within(pick(is_left, left, right)),
         }
     }
 
@@ -198,6 +222,27 @@ impl Descent {
             Stage::Found => Some(self.at.cell),
             _ => None,
         }
+    }
+}
+
+// One of two values. Which part of a rule has an instant is as good as random, so a branch would
+// often be guessed wrong: this is made to become a select.
+fn pick<T: Copy>(is_first: bool, first: T, second: T) -> T
+    ensures { result ≡ (if is_first then first else second) }
+{
+    if is_first { first } else { second }
+}
+
+// The same of two starts, number by number.
+fn pick_start(is_first: bool, first: Start, second: Start) -> Start
+    ensures { result ≡ (if is_first then first else second) }
+{
+    Start {
+        instant: pick(is_first, first.instant, second.instant),
+        cell: Cell {
+            x: pick(is_first, first.cell.x, second.cell.x),
+            y: pick(is_first, first.cell.y, second.cell.y),
+        },
     }
 }
 

@@ -18,7 +18,8 @@ use Rattle.track_types.proofs.RegionLemmas.{in_box-from, intersects_region-exact
 use Rattle.track_types.proofs.WideningLemmas.{in_box-wider}
 use Rattle.k2_tree.specs.Morton.{IsInGrid}
 use Rattle.k2_tree.specs.Pruning.{IsWeaker}
-use Rattle.snapshots.specs.Speed.{gap, width_at}
+use Rattle.log_bounds.specs.Bounds.{gap}
+use Rattle.snapshots.specs.Speed.{width_at}
 use Rattle.snapshots.specs.Tracks.{cell_box}
 use Rattle.slice_search.specs.Cost.{is_within_reach}
 use Rattle.track_types.specs.Boxes.{cut, cut_box, touches}

@@ -30,7 +30,8 @@ use Rattle.snapshots.specs.Objects.{WeighSame}
 use Rattle.snapshots.specs.Parts.{end_in, first_in, rules_in, snapshot_in, stops_in, stops_in_block, stops_of}
 use Rattle.snapshots.specs.Sound.{IsBlock}
 use Rattle.snapshots.specs.SoundParts.{IsValid}
-use Rattle.snapshots.specs.Speed.{gap, speed_of, width_at, IsReached, IsWithinReach}
+use Rattle.log_bounds.specs.Bounds.{gap}
+use Rattle.snapshots.specs.Speed.{speed_of, width_at, IsReached, IsWithinReach}
 use Rattle.snapshots.specs.Tracks.{cell_box, may_hold, track_box, AreOnTracks, IsOnTrack}
 use Rattle.snapshots.specs.View.{SnapshotView, all_blocks, block_of, tree_in}
 use Rattle.snapshots.specs.declared.anchored.Anchored.{Anchored}

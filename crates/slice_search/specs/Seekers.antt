@@ -1,12 +1,25 @@
 -- Searches of one instant, side by side.
 use Rattle.std.specs.Prelude.{◌≡◌, ℕ, ℤ, List, All, map, Option}
 use Rattle.std.specs.Option.{option_map}
+use Rattle.track_types.specs.declared.parts.Parts.{Parts}
 use Rattle.track_types.specs.declared.region.Region.{Region}
 use Rattle.track_types.specs.declared.sighting.Sighting.{Sighting}
 use Rattle.rule_store.specs.View.{RulesView}
-use Rattle.log_cursor.specs.Descent.{IsDescent, hit_of, parted_of, reads_of, rest_of, turning_of, weight_of}
+use Rattle.log_cursor.specs.Descent.{IsDescent, first_needed, first_reads, hit_of, parted_of, reads_of, rest_of, turning_of, weight_of}
+use Rattle.log_cursor.specs.Start.{start_at}
+use Rattle.snapshots.specs.Parts.{anchored_at, log_in}
+use Rattle.snapshots.specs.declared.anchored.Anchored.{Anchored}
 use Rattle.slice_search.specs.Sightings.{seen_at}
 use Rattle.slice_search.specs.declared.seekers.Seeker.{Seeker}
+
+-- the symbol with which the search for the object of a block begins
+unfoldable pub first_in : Parts → ℕ → ℤ → Anchored → Option ℕ
+first_in parts number instant block =
+    first_needed (log_in parts block) (start_at (anchored_at parts.frame number block) block.cell) instant
+
+-- how many reads it takes
+abbrev pub first_reads_in : Parts → ℕ → ℤ → Anchored → ℕ
+first_reads_in parts number instant block = first_reads (first_in parts number instant block)
 
 -- a search stands where it says to be
 abbrev pub IsSeeker : RulesView → ℤ → Seeker → Type 0

@@ -2,11 +2,12 @@ ghost use Rattle.std.specs.Prelude.{◌≡◌, ◌+◌, ◌<◌, ◌≤◌, ℤ,
 ghost use Rattle.std.specs.List.{sum_by};
 ghost use Rattle.track_types.specs.declared.region.Region.{Region};
 ghost use Rattle.rule_store.specs.View.{RulesView};
-ghost use Rattle.log_cursor.specs.Descent.{rest_of};
+ghost use Rattle.log_cursor.specs.Descent.{first_reads, rest_of};
 ghost use Rattle.snapshots.specs.Parts.{rules_in, snapshot_in};
 ghost use Rattle.snapshots.specs.Sound.{IsBlock};
 ghost use Rattle.slice_search.specs.Live.{first_of, AreLive};
 ghost use Rattle.slice_search.specs.Seekers.{
+  first_in,
   parted_in,
   reads_in,
   rest_in,
@@ -40,26 +41,46 @@ pub(crate) struct Seeker {
 }
 
 impl Seeker {
-    /// The search for the object of a block at the first instant of a window.
-    pub(crate) fn begin<L: Ledger>(
+    /// The first symbol of a block's log, if the search for its object begins with it.
+    pub(crate) fn first_symbol<L: Ledger>(
         sought: &Sought,
         block: &Anchored,
         steps: &mut Steps<L>,
-    ) -> Seeker
+    ) -> Option<u32>
         requires { IsBlock (snapshot_in sought.now.stores.now sought.now.period) block.now }
+        ensures value { result ≡ first_in sought.now.stores.now sought.now.period sought.now.from
+            block.now }
+        ensures cost { steps.new ≡ steps.old + first_reads result }
+    {
+        let placed = Placed::new(sought.stores, sought.period, block);
+        Descent::first_symbol(placed.log, placed.start, sought.from, steps)
+    }
+
+    /// The search for the object of a block at the first instant of a window. The first symbol of its
+    /// log was read before.
+    pub(crate) fn begin<L: Ledger>(
+        sought: &Sought,
+        block: &Anchored,
+        first: Option<u32>,
+        steps: &mut Steps<L>,
+    ) -> Seeker
+        requires block { IsBlock (snapshot_in sought.now.stores.now sought.now.period) block.now }
+        requires first { first ≡ first_in sought.now.stores.now sought.now.period sought.now.from
+            block.now }
         ensures sound { IsSeeker (rules_in sought.now.stores.now) sought.now.from result }
         ensures seen { seen_by (rules_in sought.now.stores.now) sought.now.from
             sought.now.test.now.region result ≡ sighting_in sought.now.stores.now
             sought.now.period sought.now.from sought.now.from sought.now.test.now.region block.now }
-        ensures cost { steps.new + reads_in (rules_in sought.now.stores.now) sought.now.from
-            sought.now.test.now.region result ≤ steps.old + log_reads sought.now.stores.now
-            sought.now.period sought.now.from sought.now.from sought.now.test.now.region block.now }
+        ensures cost { steps.new + (first_reads first + reads_in (rules_in sought.now.stores.now)
+            sought.now.from sought.now.test.now.region result) ≤ steps.old + log_reads
+            sought.now.stores.now sought.now.period sought.now.from sought.now.from
+            sought.now.test.now.region block.now }
     {
         let _ = sought.stores.frame(); // says what holds of every index
-        let placed = Placed::new(sought.stores, sought.period, block);
+        let Placed { log, start } = Placed::new(sought.stores, sought.period, block);
         Seeker {
             object: sought.stores.object_at(block.index),
-            descent: Descent::begin(placed.log, placed.start, sought.from, sought.test, steps),
+            descent: Descent::begin(log, start, first, sought.from, sought.test, steps),
         }
     }
 

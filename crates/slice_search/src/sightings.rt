@@ -1,11 +1,11 @@
-ghost use Rattle.std.specs.Prelude.{◌≡◌, ◌+◌, ◌++◌, ◌≤◌, ℤ, [], length, option_to_list, vec_capacity, All, IfOk, OnOk};
+ghost use Rattle.std.specs.Prelude.{◌≡◌, ◌+◌, ◌++◌, ◌≤◌, ℤ, [], length, map, option_to_list, vec_capacity, All, IfOk, OnOk};
 ghost use Rattle.std.specs.List.{filter_map, sum_by};
 ghost use Rattle.track_types.specs.declared.region.Region.{Region};
 ghost use Rattle.rule_store.specs.View.{RulesView};
 ghost use Rattle.snapshots.specs.Parts.{rules_in, snapshot_in};
 ghost use Rattle.snapshots.specs.Sound.{IsBlock};
 ghost use Rattle.slice_search.specs.Sightings.{sighting_in};
-ghost use Rattle.slice_search.specs.Seekers.{reads_in, rest_in, seen_by, IsSeeker};
+ghost use Rattle.slice_search.specs.Seekers.{first_in, first_reads_in, reads_in, rest_in, seen_by, IsSeeker};
 ghost use Rattle.slice_search.specs.Sought.{log_reads};
 
 use crate::seekers::{GROUP, Seeker, search_all};
@@ -74,7 +74,8 @@ fn push_group<L: Ledger>(
     Ok(())
 }
 
-// Begins the searches of some blocks, one straight after another.
+// Begins the searches of some blocks. Each log stands somewhere else in memory, so the first symbols of
+// all of them are read before the first is looked at: then all are on their way at once.
 fn begin_all<L: Ledger>(
     sought: &Sought,
     group: &[Anchored],
@@ -96,8 +97,59 @@ fn begin_all<L: Ledger>(
         sought.now.stores.now sought.now.period sought.now.from sought.now.from
         sought.now.test.now.region) group.now }
 {
+    let firsts = first_symbols(sought, group, steps);
+    begin_each(sought, group, firsts.as_slice(), seekers, steps);
+}
+
+// The first symbols of the logs of some blocks, as far as the searches begin with them.
+fn first_symbols<L: Ledger>(
+    sought: &Sought,
+    group: &[Anchored],
+    steps: &mut Steps<L>,
+) -> ArrayVec<Option<u32>, GROUP>
+    requires few { length group.now ≤ 16 }
+    requires blocks { All (IsBlock (snapshot_in sought.now.stores.now sought.now.period))
+        group.now }
+    ensures value { result.items ≡ map (first_in sought.now.stores.now sought.now.period
+        sought.now.from) group.now }
+    ensures cost { steps.new ≡ steps.old + sum_by (first_reads_in sought.now.stores.now
+        sought.now.period sought.now.from) group.now }
+{
+    let mut firsts = ArrayVec::new();
     for i in 0..group.len() {
-        seekers.push(Seeker::begin(sought, &group[i], steps));
+        firsts.push(Seeker::first_symbol(sought, &group[i], steps));
+    }
+    firsts
+}
+
+// Begins the searches of some blocks with these first symbols, one straight after another.
+fn begin_each<L: Ledger>(
+    sought: &Sought,
+    group: &[Anchored],
+    firsts: &[Option<u32>],
+    seekers: &mut ArrayVec<Seeker, GROUP>,
+    steps: &mut Steps<L>,
+)
+    requires few { length group.now ≤ 16 }
+    requires none { seekers.old.items ≡ [] }
+    requires blocks { All (IsBlock (snapshot_in sought.now.stores.now sought.now.period))
+        group.now }
+    requires firsts { firsts.now ≡ map (first_in sought.now.stores.now sought.now.period
+        sought.now.from) group.now }
+    ensures sound { All (IsSeeker (rules_in sought.now.stores.now) sought.now.from)
+        seekers.new.items }
+    ensures seen { filter_map (seen_by (rules_in sought.now.stores.now) sought.now.from
+        sought.now.test.now.region) seekers.new.items ≡ filter_map (sighting_in
+        sought.now.stores.now sought.now.period sought.now.from sought.now.from
+        sought.now.test.now.region) group.now }
+    ensures cost { steps.new + (sum_by (first_reads_in sought.now.stores.now sought.now.period
+        sought.now.from) group.now + sum_by (reads_in (rules_in sought.now.stores.now)
+        sought.now.from sought.now.test.now.region) seekers.new.items) ≤ steps.old + sum_by
+        (log_reads sought.now.stores.now sought.now.period sought.now.from sought.now.from
+        sought.now.test.now.region) group.now }
+{
+    for i in 0..group.len() {
+        seekers.push(Seeker::begin(sought, &group[i], firsts[i], steps));
     }
 }
 

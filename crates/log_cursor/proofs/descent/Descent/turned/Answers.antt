@@ -1,9 +1,10 @@
-use Rattle.std.proofs.Common.{◌≤ℤ◌, ◌<ℤ◌, ap, subst, sym, ◌∙◌, arith}
+use Rattle.std.proofs.Common.{ap, subst, sym, ◌∙◌, inl, inr, arith}
 use Rattle.std.proofs.lemmas.Int.{ints}
-use Rattle.log_cursor.specs.Descent.{IsParted, IsStage, hit_from, reads_from}
-use Rattle.log_cursor.proofs.DescentLemmas.{count-left, count-right, hit-left, hit-right, parted-left, parted-middle, parted-right}
+use Rattle.log_cursor.specs.Descent.{IsParted, IsStage, hit_from, reads_from, stage_parted, stage_weight}
+use Rattle.log_cursor.proofs.DescentLemmas.{IsPicked, parted-middle, picked-by, picked-count, picked-hit, picked-within}
+use Rattle.log_cursor.proofs.StopLemmas.{word}
 use Rattle.log_cursor.proofs.descent.Descent.turned.Goals as goal
-use Rattle.log_cursor.proofs.descent.Descent.turned.Goals.{After-entry}
+use Rattle.log_cursor.proofs.descent.Descent.turned.Goals.{After-entry, After-pick}
 
 -- where the rule was opened
 parted_is : (c : After-entry) →
@@ -15,48 +16,37 @@ after-middle-requires c =
     parted-middle c.args.rules.now c.args.self.at c.args.instant c.in-Parted.left c.in-Parted.right
     (parted_is (goal.at.after-middle-requires c).After-entry) c.entry.result c.entry.ensures.value
 
-pub returns-then-instant-middle-clause-sound : goal.returns-then-instant-middle-clause-sound
-returns-then-instant-middle-clause-sound c =
-    let early : c.args.instant ≤ℤ c.after-middle.result.instant = omega (arith, ints, c.if-instant-middle.true) in
-    parted-left c.args.rules.now c.args.self.at c.args.instant c.in-Parted.left c.in-Parted.right
-    (parted_is (goal.at.returns-then-instant-middle-clause-sound c).After-entry) c.entry.result c.entry.ensures.value
-    c.after-middle.result c.after-middle.ensures early
+-- which part was picked
+picked : (c : After-pick) → IsPicked c.args.self.at c.after-middle.result c.args.instant c.in-Parted.left
+    c.in-Parted.right c.pick_start.result c.pick.result
+picked c =
+    picked-by c.args.self.at c.after-middle.result c.pick_start.result c.args.instant (word c.args.instant)
+    (word c.after-middle.result.instant) c.in-Parted.left c.in-Parted.right c.pick.result (omega (arith, ints))
+    (omega (arith, ints)) c.pick_start.ensures c.pick.ensures
 
-pub returns-then-instant-middle-clause-hit : goal.returns-then-instant-middle-clause-hit
-returns-then-instant-middle-clause-hit c region =
-    let early : c.args.instant ≤ℤ c.after-middle.result.instant = omega (arith, ints, c.if-instant-middle.true) in
-    hit-left c.args.rules.now c.args.self.at c.args.instant c.in-Parted.left c.in-Parted.right
-    (parted_is (goal.at.returns-then-instant-middle-clause-hit c).After-entry) c.entry.result c.entry.ensures.value
-    c.after-middle.result c.after-middle.ensures region early
+pub returns-clause-sound : goal.returns-clause-sound
+returns-clause-sound c =
+    picked-within c.args.rules.now c.args.self.at c.args.instant c.in-Parted.left c.in-Parted.right
+    (parted_is (goal.at.returns-clause-sound c).After-entry) c.entry.result c.entry.ensures.value c.after-middle.result
+    c.after-middle.ensures c.pick_start.result c.pick.result (picked c)
+
+pub returns-clause-hit : goal.returns-clause-hit
+returns-clause-hit c region =
+    picked-hit c.args.rules.now c.args.self.at c.args.instant c.in-Parted.left c.in-Parted.right
+    (parted_is (goal.at.returns-clause-hit c).After-entry) c.entry.result c.entry.ensures.value c.after-middle.result
+    c.after-middle.ensures region c.pick_start.result c.pick.result (picked c)
     ∙ ap (hit_from c.args.rules.now c.args.instant region c.args.self.at) (sym c.in-Parted.is)
 
-pub returns-then-instant-middle-clause-cost : goal.returns-then-instant-middle-clause-cost
-returns-then-instant-middle-clause-cost c region =
+pub returns-clause-weight : goal.returns-clause-weight
+returns-clause-weight c = elim (picked c) [
+  | inl early ↦ omega (arith, ap stage_weight c.in-Parted.is, ap stage_parted c.in-Parted.is, early.1.1)
+  | inr late ↦ omega (arith, ap stage_weight c.in-Parted.is, ap stage_parted c.in-Parted.is, late.1.1)
+]
+
+pub returns-clause-cost : goal.returns-clause-cost
+returns-clause-cost c region =
     let same = ap (reads_from c.args.rules.now c.args.instant region c.args.self.at) c.in-Parted.is in
-    let less = count-left c.args.rules.now c.args.self.at c.args.instant c.in-Parted.left c.in-Parted.right
-    (parted_is (goal.at.returns-then-instant-middle-clause-cost c).After-entry) c.entry.result c.entry.ensures.value
-    c.after-middle.result c.after-middle.ensures region in
-    omega (arith, same, less)
-
-pub returns-else-instant-middle-clause-sound : goal.returns-else-instant-middle-clause-sound
-returns-else-instant-middle-clause-sound c =
-    let late : c.after-middle.result.instant <ℤ c.args.instant = omega (arith, ints, c.if-instant-middle.false) in
-    parted-right c.args.rules.now c.args.self.at c.args.instant c.in-Parted.left c.in-Parted.right
-    (parted_is (goal.at.returns-else-instant-middle-clause-sound c).After-entry) c.entry.result c.entry.ensures.value
-    c.after-middle.result c.after-middle.ensures late
-
-pub returns-else-instant-middle-clause-hit : goal.returns-else-instant-middle-clause-hit
-returns-else-instant-middle-clause-hit c region =
-    let late : c.after-middle.result.instant <ℤ c.args.instant = omega (arith, ints, c.if-instant-middle.false) in
-    hit-right c.args.rules.now c.args.self.at c.args.instant c.in-Parted.left c.in-Parted.right
-    (parted_is (goal.at.returns-else-instant-middle-clause-hit c).After-entry) c.entry.result c.entry.ensures.value
-    c.after-middle.result c.after-middle.ensures region late
-    ∙ ap (hit_from c.args.rules.now c.args.instant region c.args.self.at) (sym c.in-Parted.is)
-
-pub returns-else-instant-middle-clause-cost : goal.returns-else-instant-middle-clause-cost
-returns-else-instant-middle-clause-cost c region =
-    let same = ap (reads_from c.args.rules.now c.args.instant region c.args.self.at) c.in-Parted.is in
-    let less = count-right c.args.rules.now c.args.self.at c.args.instant c.in-Parted.left c.in-Parted.right
-    (parted_is (goal.at.returns-else-instant-middle-clause-cost c).After-entry) c.entry.result c.entry.ensures.value
-    c.after-middle.result c.after-middle.ensures region in
+    let less = picked-count c.args.rules.now c.args.self.at c.args.instant c.in-Parted.left c.in-Parted.right
+    (parted_is (goal.at.returns-clause-cost c).After-entry) c.entry.result c.entry.ensures.value c.after-middle.result
+    c.after-middle.ensures region c.pick_start.result c.pick.result (picked c) in
     omega (arith, same, less)

@@ -9,24 +9,32 @@ use Rattle.log_cursor.specs.Descent.{hit_of}
 use Rattle.slice_search.specs.Sightings.{seen_at}
 use Rattle.std.specs.Option.{option_map}
 use Rattle.log_cursor.proofs.StopLemmas.{word}
-use Rattle.slice_search.proofs.HitLemmas.{first_stop-found, log_reads-found, sighting_in-is}
+use Rattle.slice_search.proofs.HitLemmas.{first_in-found, first_stop-found, log_reads-found, sighting_in-is}
 use Rattle.slice_search.proofs.seekers.Seeker.begin.Goals as goal
 
 pub object_at-requires : goal.object_at-requires
 object_at-requires g c =
     let sought = c.args.sought.now in
     let valid : IsValid sought.stores.now = record { shaped = c.frame.ensures.shaped; sound = c.frame.ensures.sound } in
-    block-known sought.stores.now valid sought.period sought.known c.args.block.now c.requires
+    block-known sought.stores.now valid sought.period sought.known c.args.block.now c.requires.block
+
+pub begin-requires-clause-first : goal.begin-requires-clause-first
+begin-requires-clause-first g c =
+    let sought = c.args.sought.now in
+    let placed = c.new.ensures in
+    let kept : word sought.from ≡ sought.from = omega (arith, ints) in
+    rw kept (c.requires.first ∙ first_in-found sought.stores.now sought.period sought.from c.args.block.now
+    (log_of c.new.result.log) c.new.result.start placed.log placed.start)
 
 pub returns-clause-seen : goal.returns-clause-seen
 returns-clause-seen g c =
     let sought = c.args.sought.now in
     let parts = sought.stores.now in
     let region = sought.test.now.region in
-    let placed = c.new-placed.ensures in
+    let placed = c.new.ensures in
     let its = get_or_from_slice_get parts.objects c.args.block.now.index c.object_at.result 0 c.object_at.ensures.value in
     let found = first_stop-found parts sought.period sought.from sought.from sought.from sought.from refl refl region
-    c.args.block.now c.new-placed.result.log.rules.now (log_of c.new-placed.result.log) c.new-placed.result.start
+    c.args.block.now c.new.result.log.rules.now (log_of c.new.result.log) c.new.result.start
     placed.rules placed.log placed.start in
     let kept : word sought.from ≡ sought.from = omega (arith, ints) in
     let hit = rw (placed.rules, kept) at c.begin.ensures.hit in
@@ -38,10 +46,10 @@ pub returns-clause-cost : goal.returns-clause-cost
 returns-clause-cost g c =
     let sought = c.args.sought.now in
     let parts = sought.stores.now in
-    let placed = c.new-placed.ensures in
+    let placed = c.new.ensures in
     let most = log_reads-found parts sought.period sought.from sought.from sought.from sought.from refl refl
-    sought.test.now.region c.args.block.now c.new-placed.result.log.rules.now (log_of c.new-placed.result.log)
-    c.new-placed.result.start placed.rules placed.log placed.start in
+    sought.test.now.region c.args.block.now c.new.result.log.rules.now (log_of c.new.result.log)
+    c.new.result.start placed.rules placed.log placed.start in
     let kept : word sought.from ≡ sought.from = omega (arith, ints) in
     let cost = rw (placed.rules, kept) at c.begin.ensures.cost in
     let least = rw placed.rules at most in

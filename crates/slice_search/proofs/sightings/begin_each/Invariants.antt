@@ -1,10 +1,10 @@
 use Rattle.std.proofs.Common.{◌≡◌, ◌+◌, ◌≤◌, All, length, take}
 use Rattle.std.specs.List.{filter_map, sum_by}
 use Rattle.snapshots.specs.Parts.{rules_in}
-use Rattle.slice_search.specs.Seekers.{reads_in, seen_by, IsSeeker}
+use Rattle.slice_search.specs.Seekers.{first_reads_in, reads_in, seen_by, IsSeeker}
 use Rattle.slice_search.specs.Sightings.{sighting_in}
 use Rattle.slice_search.specs.Sought.{log_reads}
-use Rattle.slice_search.proofs.sightings.begin_all.Given as goal
+use Rattle.slice_search.proofs.sightings.begin_each.Given as goal
 
 abbrev pub invariant-loop-i : goal.invariant-loop-i
 invariant-loop-i g l =
@@ -17,6 +17,7 @@ invariant-loop-i g l =
       sound : All (IsSeeker (rules_in parts) instant) l.seekers.items;
       seen : filter_map (seen_by (rules_in parts) instant region) l.seekers.items
           ≡ filter_map (sighting_in parts number instant instant region) (take l.i l.group);
-      reads : l.steps + sum_by (reads_in (rules_in parts) instant region) l.seekers.items
+      reads : l.steps + (sum_by (first_reads_in parts number instant) (take l.i l.group)
+          + sum_by (reads_in (rules_in parts) instant region) l.seekers.items)
           ≤ l.fn.steps + sum_by (log_reads parts number instant instant region) (take l.i l.group);
     }
