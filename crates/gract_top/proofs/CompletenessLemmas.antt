@@ -30,14 +30,20 @@ use Rattle.gract_top.specs.declared.request.Settings.{Settings}
 abbrev pub IsGood : Outcome → Type 0
 IsGood result = (result ≡ outcome.Done) ⊎ (result ≡ outcome.Memory)
 
--- the causes that are left out by the devices and the words, and that lead to the others
-pub by_cause : (result : Outcome) → ((place : ℕ) → result ≢ outcome.Words place) → (result ≢ outcome.LoadFailed) →
-    (result ≢ outcome.SaveFailed) → (result ≢ outcome.ListenFailed) → (result ≢ outcome.SayFailed) →
+-- An outcome that names neither the words nor a device, unless a file was not loaded.
+pub record IsUntroubled (result : Outcome) : Type 0 where
+  pub words : (place : ℕ) → result ≢ outcome.Words place
+  pub save : result ≢ outcome.SaveFailed
+  pub listen : result ≢ outcome.ListenFailed
+  pub say : result ≢ outcome.SayFailed
+
+-- the causes that lead to the others
+pub by_cause : (result : Outcome) → IsUntroubled result → (result ≢ outcome.LoadFailed) →
     (is_bytes_refusal result ≡ true → ⊥) → ((flaw : Flaw) → result ≢ outcome.Flaw flaw) →
     ((value : ℕ) → result ≢ outcome.Limit limit.Questions value) →
     ((setting : Setting) (left right : ℕ) → result ≢ outcome.Settings setting left right) →
     ((object : ℕ) → result ≢ outcome.Common object) → IsGood result
-by_cause result words load save listen say refused flawed long settings common = grind (arith)
+by_cause result untroubled load refused flawed long settings common = grind (arith)
 
 -- a file that is held is not missing
 pub file_named-found : (map : Option FileMap) (files : FileMap) (name bytes : List ℕ) → map ≡ Some files →
@@ -115,16 +121,14 @@ module _ (untouched : Type 0) (before now : Talk) where
 -- a call of `once`
 pub once-good : (result : Outcome) (csv : List ℕ) (settings : Settings) (untouched : Type 0) (before now : OutsideView) →
     EndsOnce result csv settings untouched before now → HasAccepted before.files.map csv settings →
-    HasQuestions before.talk.rest → IsPlain before.given → ((place : ℕ) → result ≢ outcome.Words place) →
-    (result ≢ outcome.SaveFailed) → (result ≢ outcome.ListenFailed) → (result ≢ outcome.SayFailed) →
+    HasQuestions before.talk.rest → IsPlain before.given → IsUntroubled result →
     (Rose before.files.load_faults now.files.load_faults → ⊥) → IsGood result
-once-good result csv settings untouched before now ends ready lines plain words save listen say calm =
-    by_cause result words
+once-good result csv settings untouched before now ends ready lines plain untroubled calm =
+    by_cause result untroubled
     (λ failed. elim (ends.loading.one.load_failed failed) [
       | inl rose ↦ calm rose
       | inr missing ↦ file_named-found before.files.map ready.files csv ready.bytes ready.told ready.holds missing
     ])
-    save listen say
     (λ refusal. accepted-kept before.files.map now.files.loads now.files.taken csv settings result ready (ends.refused refusal))
     (λ flaw is.
     let Over : Outcome → Type 0 = λ other. AnswersChart other csv settings untouched before now in
@@ -149,15 +153,13 @@ once-good result csv settings untouched before now ends ready lines plain words 
 -- a call of `ask`
 pub ask-good : (result : Outcome) (index : List ℕ) (untouched : Type 0) (before now : OutsideView) →
     EndsAsk result index untouched before now → HasIndex before.files.map index → HasQuestions before.talk.rest →
-    ((place : ℕ) → result ≢ outcome.Words place) → (result ≢ outcome.SaveFailed) → (result ≢ outcome.ListenFailed) →
-    (result ≢ outcome.SayFailed) → (Rose before.files.load_faults now.files.load_faults → ⊥) → IsGood result
-ask-good result index untouched before now ends ready lines words save listen say calm =
-    by_cause result words
+    IsUntroubled result → (Rose before.files.load_faults now.files.load_faults → ⊥) → IsGood result
+ask-good result index untouched before now ends ready lines untroubled calm =
+    by_cause result untroubled
     (λ failed. elim (ends.loading.one.load_failed failed) [
       | inl rose ↦ calm rose
       | inr missing ↦ file_named-found before.files.map ready.files index ready.bytes ready.told ready.holds missing
     ])
-    save listen say
     (λ refusal. index-kept before.files.map now.files.loads now.files.taken index result ready (ends.refused refusal))
     (λ flaw is.
     let Over : Outcome → Type 0 = λ other. AnswersFile other index untouched before now in
@@ -186,15 +188,13 @@ ask-good result index untouched before now ends ready lines words save listen sa
 -- a call of `build`
 pub build-good : (result : Outcome) (csv index : List ℕ) (settings : Settings) (before now : FilesState) →
     EndsBuild result csv index settings before now → HasAccepted before.map csv settings →
-    ((place : ℕ) → result ≢ outcome.Words place) → (result ≢ outcome.SaveFailed) → (result ≢ outcome.ListenFailed) →
-    (result ≢ outcome.SayFailed) → (Rose before.load_faults now.load_faults → ⊥) → IsGood result
-build-good result csv index settings before now ends ready words save listen say calm =
-    by_cause result words
+    IsUntroubled result → (Rose before.load_faults now.load_faults → ⊥) → IsGood result
+build-good result csv index settings before now ends ready untroubled calm =
+    by_cause result untroubled
     (λ failed. elim (ends.loading.one.load_failed failed) [
       | inl rose ↦ calm rose
       | inr missing ↦ file_named-found before.map ready.files csv ready.bytes ready.told ready.holds missing
     ])
-    save listen say
     (λ refusal. accepted-kept before.map now.loads now.taken csv settings result ready (ends.refused refusal))
     (λ flaw is. let late : is_late result ≡ true = ap is_late is in
     let Saves : Outcome → Type 0 = λ other. Saved other index (written (ends.late late).chart) before now in
@@ -215,6 +215,5 @@ module _ (result : Outcome) (settings : SampleSettings) (unsaid : Type 0) (given
     -- a call of `sample`
     pub sample-good : (files_before files_now : FilesState) →
         EndsSample result settings unsaid files_before files_now given before now → sample_refusal settings ≡ None →
-        ((place : ℕ) → result ≢ outcome.Words place) → (result ≢ outcome.LoadFailed) →
-        (result ≢ outcome.SaveFailed) → (result ≢ outcome.ListenFailed) → (result ≢ outcome.SayFailed) → IsGood result
-    sample-good files_before files_now ends accepted words load save listen say = grind (arith)
+        result ≢ outcome.SayFailed → IsGood result
+    sample-good files_before files_now ends accepted say = grind (arith)

@@ -9,6 +9,7 @@ use Rattle.chart_parts.specs.PartsOf.{parts_of}
 use Rattle.track_index.specs.Opening.{IsFile}
 use Rattle.gract_top.specs.Outcome.{EndsOpened, EndsOver}
 use Rattle.gract_top.specs.Beginning.{SavesNothing}
+use Rattle.gract_top.specs.Counting.{CountsFiles}
 use Rattle.gract_top.specs.Ends.{AnswersChart, EndsOnce, OutsideView, Saved}
 use Rattle.gract_top.specs.Refusal.{IsAccepted, is_early, is_bytes_refusal}
 use Rattle.gract_top.specs.Stopping.{LoadsFile}
@@ -31,9 +32,9 @@ module _ (result : Outcome) (csv : List ℕ) (settings : Settings) (untouched : 
   AnswersChart-passed chart bytes passed accepted file short is ended decides = grind (arith)
 
   -- it ended after the file was accepted
-  pub EndsOnce-late : LoadsFile csv limit.Csv before.files now.files → is_early result ≡ false →
-      AnswersChart result csv settings untouched before now → EndsOnce result csv settings untouched before now
-  EndsOnce-late loads later answers = grind (arith)
+  pub EndsOnce-late : LoadsFile csv limit.Csv before.files now.files → CountsFiles result before.files now.files →
+      is_early result ≡ false → AnswersChart result csv settings untouched before now → EndsOnce result csv settings untouched before now
+  EndsOnce-late loads counts later answers = grind (arith)
 
 module _ (index bytes : List ℕ) (before now : FilesState) where
   -- a save that does not fail is done

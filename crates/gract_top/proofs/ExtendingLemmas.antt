@@ -17,6 +17,7 @@ use Rattle.path_union.specs.Union.{rows_of_tail}
 use Rattle.index_merge.specs.Extension.{extension_cost, extension_fault, IsAsBuilt}
 use Rattle.gract_top.specs.Beginning.{Progress, SavesNothing}
 use Rattle.gract_top.specs.Completeness.{HasIndex, HasTail}
+use Rattle.gract_top.specs.Counting.{CountsFiles}
 use Rattle.gract_top.specs.Ends.{EndsExtend, ExtendsParts, SavesExtension}
 use Rattle.gract_top.specs.Extending.{IsExtendedAsBuilt, NotExtended, extension_bytes}
 use Rattle.gract_top.specs.Loading.{FileCame}
@@ -26,8 +27,9 @@ use Rattle.gract_top.specs.declared.outcome.Outcome.{Outcome}
 use Rattle.gract_top.specs.declared.outcome.Outcome.TheVariants as outcome
 use Rattle.gract_top.specs.declared.request.Settings.{Settings}
 use Rattle.gract_top.proofs.BeginningLemmas.{OpensFile-parts}
-use Rattle.gract_top.proofs.CompletenessLemmas.{IsGood, came-whole}
+use Rattle.gract_top.proofs.CompletenessLemmas.{IsGood, IsUntroubled, came-whole}
 use Rattle.gract_top.proofs.EndsLemmas.{Saved-done, Saved-loaded}
+use Rattle.gract_top.proofs.StoppingLemmas.{CountsFiles-after}
 use Rattle.gract_top.proofs.TailOpeningLemmas.{OpensTailed-unsaved, StopsAtEither-good, StopsAtEither-unsaved, tail-short, unsaved-twice}
 
 -- and so are those of a file
@@ -73,18 +75,22 @@ module _ (map : Option FileMap) (loads : List Load) (taken : ℕ) (csv : List �
 
 module _ (result : Outcome) (index csv name : List ℕ) (before now : Progress) where
   -- a call that ended at one of its files
-  pub EndsExtend-stopped : StopsAtEither result index csv before now → EndsExtend result index csv name before now
-  EndsExtend-stopped stops = inl (stops, StopsAtEither-unsaved result index csv before now stops)
+  pub EndsExtend-stopped : StopsAtEither result index csv before now → CountsFiles result before.files now.files →
+      EndsExtend result index csv name before now
+  EndsExtend-stopped stops counts = record {
+    counts = counts;
+    ended = inl (stops, StopsAtEither-unsaved result index csv before now stops);
+  }
 
   -- a call whose files were both opened ends as what was made of them ended
   pub EndsExtend-opened : (parts : Parts) (tail : Option ChartView) (opened : Progress) →
-      OpensTailed index csv parts tail before opened →
+      OpensTailed index csv parts tail before opened → CountsFiles result opened.files now.files →
       ((NotExtended result parts tail × SavesNothing opened.files now.files)
       ⊎ SavesExtension result parts tail name opened.files now.files) → IsAsBuilt parts (rows_of_tail tail) →
       now.steps ≤ opened.steps + extension_cost parts (rows_of_tail tail) → now.files.loads ≡ opened.files.loads →
       now.files.begins ≡ opened.files.begins → now.files.taken ≡ opened.files.taken →
       EndsExtend result index csv name before now
-  EndsExtend-opened parts tail opened opens ended built cost loads begins taken =
+  EndsExtend-opened parts tail opened opens counts ended built cost loads begins taken =
       let loaded = OpensTailed-unsaved index csv parts tail before opened opens in
       let extends : ExtendsParts result index csv name before now = record {
         parts = parts;
@@ -106,7 +112,11 @@ module _ (result : Outcome) (index csv name : List ℕ) (before now : Progress) 
         begins = begins;
         taken = taken;
       } in
-      inr extends
+      record {
+        counts = CountsFiles-after result before.files opened.files now.files
+            (opens.grids.load_faults ∙ opens.opens.load_faults) (opens.grids.save_faults ∙ opens.opens.save_faults) counts;
+        ended = inr extends;
+      }
 
   module _ (ready : HasIndex before.files.map index) (later : HasTail before.files.map csv (settings_in ready.parts))
       (made : extension_fault ready.parts
@@ -135,17 +145,16 @@ module _ (result : Outcome) (index csv name : List ℕ) (before now : Progress) 
           rw (same, rows) made
 
       -- a call of `extend`
-      pub extend-good : EndsExtend result index csv name before now → ((place : ℕ) → result ≢ outcome.Words place) →
-          result ≢ outcome.SaveFailed → result ≢ outcome.ListenFailed → result ≢ outcome.SayFailed →
+      pub extend-good : EndsExtend result index csv name before now → IsUntroubled result →
           (Rose before.files.load_faults now.files.load_faults → ⊥) → IsGood result
-      extend-good ends words save listen say calm = elim ends [
-        | inl stops ↦ StopsAtEither-good index csv before ready later result now words save listen say calm stops.0
+      extend-good ends untroubled calm = elim ends.ended [
+        | inl stops ↦ StopsAtEither-good index csv before ready later result now untroubled calm stops.0
         | inr over ↦ elim over.ended [
           | inl unmade ↦ elim unmade.0 [
             | inl memory ↦ inr memory
             | inr found ↦ absurd (let both : Some found.0 ≡ None = sym found.1 ∙ extension-none over in cc)
           ]
           | inr saves ↦
-              inl (Saved-done name (extension_bytes over.parts over.tail) before.files now.files result saves.saved save)
+              inl (Saved-done name (extension_bytes over.parts over.tail) before.files now.files result saves.saved untroubled.save)
         ]
       ]

@@ -8,6 +8,7 @@ mod WritingLemmas
 pub mod SummaryLemmas
 pub mod SamplingLemmas
 pub mod CompletenessLemmas
+pub mod FaultLemmas
 pub mod BeginningLemmas
 pub mod MergingLemmas
 pub mod TailOpeningLemmas

@@ -11,11 +11,13 @@ use Rattle.index_merge.specs.Extension.{IsAsBuilt}
 use Rattle.index_merge.specs.MergeFault.{merge_fault}
 use Rattle.gract_top.specs.Beginning.{OpensFile, Progress, SavesNothing}
 use Rattle.gract_top.specs.Completeness.{HasIndex}
+use Rattle.gract_top.specs.Counting.{CountsFiles}
 use Rattle.gract_top.specs.Ends.{EndsMerge, MergesParts, SavesUnion}
 use Rattle.gract_top.specs.Merging.{NotMerged, union_bytes}
 use Rattle.gract_top.proofs.BeginningLemmas.{OpensFile-parts, StopsAtIndex-memory}
 use Rattle.gract_top.proofs.CompletenessLemmas.{IsGood}
 use Rattle.gract_top.proofs.EndsLemmas.{Saved-done, Saved-loaded}
+use Rattle.gract_top.proofs.StoppingLemmas.{CountsFiles-after}
 use Rattle.gract_top.proofs.TailOpeningLemmas.{unsaved-twice}
 use Rattle.gract_top.specs.declared.outcome.Outcome.{Outcome}
 use Rattle.gract_top.specs.declared.outcome.Outcome.TheVariants as outcome
@@ -23,11 +25,12 @@ use Rattle.gract_top.specs.declared.outcome.Outcome.TheVariants as outcome
 module _ (result : Outcome) (first second : Parts) (left right name : List ℕ) (before between opened now : Progress) where
   -- a merge whose files were both opened ends as what was made of them ended
   pub EndsMerge-opened : OpensFile left first before between → OpensFile right second between opened →
+      CountsFiles result opened.files now.files →
       ((NotMerged result first second × SavesNothing opened.files now.files)
       ⊎ SavesUnion result first second name opened.files now.files) →
       IsAsBuilt first (chart_in second).rows → now.steps ≤ opened.steps + union_cost first second → now.files.loads ≡ opened.files.loads →
       now.files.begins ≡ opened.files.begins → EndsMerge result left right name before now
-  EndsMerge-opened one two ended built cost loads begins =
+  EndsMerge-opened one two counts ended built cost loads begins =
       let loaded = unsaved-twice before.files between.files opened.files one.unsaved two.unsaved in
       let merges : MergesParts result first second name before.files opened now = record {
         ended = elim ended [
@@ -44,14 +47,18 @@ module _ (result : Outcome) (first second : Parts) (left right name : List ℕ) 
         loads = loads;
         begins = begins;
       } in
-      inr (first, between, one, inr (second, opened, two, merges))
+      record {
+        counts = CountsFiles-after result before.files opened.files now.files (two.load_faults ∙ one.load_faults)
+            (two.save_faults ∙ one.save_faults) counts;
+        ended = inr (first, between, one, inr (second, opened, two, merges));
+      }
 
 -- a call of `merge`
 pub merge-good : (result : Outcome) (left right name : List ℕ) (before now : Progress) →
     EndsMerge result left right name before now → (first : HasIndex before.files.map left)
     (second : HasIndex before.files.map right) → merge_fault first.parts second.parts ≡ None →
     result ≢ outcome.SaveFailed → (Rose before.files.load_faults now.files.load_faults → ⊥) → IsGood result
-merge-good result left right name before now ends first second merged save calm = elim ends [
+merge-good result left right name before now ends first second merged save calm = elim ends.ended [
   | inl stops ↦ inr (StopsAtIndex-memory left before now first result stops calm)
   | inr opens ↦
       let between = opens.1 in

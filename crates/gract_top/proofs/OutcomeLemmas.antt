@@ -1,14 +1,12 @@
 -- How a call ends once there are bytes to open.
-use Rattle.std.proofs.Common.{◌≡◌, ◌≢◌, ℕ, ◌≤◌, ◌+◌, false, Result, Err, OnOk, subst, arith}
-use Rattle.host_ports.specs.Faults.{Rose}
+use Rattle.std.proofs.Common.{◌≡◌, ◌≢◌, ℕ, ◌≤◌, ◌+◌, false, Result, refl, subst, arith}
+use Rattle.host_ports.specs.Counting.{SinkCounts}
 use Rattle.host_ports.specs.declared.sink.Sink.{Ghosts as OfSink}
 use Rattle.host_ports.specs.declared.source.Source.{Ghosts as OfSource}
 use Rattle.question_shell.specs.Desk.{DeskView, empty_desk}
-use Rattle.question_shell.specs.Session.{AnswersAll, AnswersBefore, AnswersFirst, AnswersFront, AnswersWhole, Meaning}
+use Rattle.question_shell.specs.RunEnds.{AnswersRun, CountsRun}
+use Rattle.question_shell.specs.Session.{Meaning}
 use Rattle.question_shell.specs.declared.shell_fault.ShellFault.{ShellFault}
-use Rattle.question_shell.specs.declared.shell_fault.ShellFault.TheVariants as shell
-use Rattle.track_types.specs.Limits.{limit_of}
-use Rattle.track_types.specs.declared.limit.LimitKind.TheVariants as limit
 use Rattle.gract_top.specs.Counting.{CountsTalk}
 use Rattle.gract_top.specs.Faults.{ended, shell_outcome}
 use Rattle.gract_top.specs.Refusal.{is_early}
@@ -16,6 +14,7 @@ use Rattle.track_types.specs.declared.parts.Parts.{Parts}
 use Rattle.snapshots.specs.IndexCost.{open_cost}
 use Rattle.gract_top.specs.Outcome.{AnswersSource, AnswersOver, Talk, index_meaning, run_at}
 use Rattle.gract_top.specs.declared.outcome.Outcome.{Outcome}
+use Rattle.gract_top.specs.declared.outcome.Outcome.TheVariants as outcome
 
 module _ (untouched : Type 0) (before now : Talk) where
   -- the lines were answered over an index that was opened
@@ -35,26 +34,34 @@ module _ (untouched : Type 0) (before now : Talk) where
 
 -- the lines of a source were answered as far as a talk went
 pub AnswersSource-run : (talk : Result (Unit {0}) ShellFault) (untouched : Type 0) (meaning : Meaning) (before now : Talk)
-    (desk : DeskView) → OnOk talk (AnswersAll meaning (run_at before empty_desk) (run_at now desk)) →
-    (talk ≡ Err shell.Listen → AnswersWhole meaning (run_at before empty_desk) (run_at now desk)) →
-    (talk ≡ Err shell.Say → AnswersFront meaning (run_at before empty_desk) (run_at now desk)) →
-    ((value : ℕ) → talk ≡ Err (shell.Limit value) → (value ≡ limit_of limit.Questions + 1)
-    × AnswersFirst meaning (run_at before empty_desk) (run_at now desk)) →
-    (talk ≡ Err shell.Memory → AnswersBefore meaning (run_at before empty_desk) (run_at now desk)) →
+    (desk : DeskView) → AnswersRun meaning talk (run_at before empty_desk) (run_at now desk) →
     AnswersSource (ended shell_outcome talk) untouched meaning before now
-AnswersSource-run talk untouched meaning before now desk ok listen say long memory = record { desk = desk; answered = grind (arith) }
+AnswersSource-run talk untouched meaning before now desk ran = record { desk = desk; answered = grind (arith) }
 
 -- a talk counts the fault of the device that it names
 pub CountsTalk-run : {S K : Type 0} (s : OfSource S) (k : OfSink K) (talk : Result (Unit {0}) ShellFault)
     (source_before source_now : S) (sink_before sink_now : K) →
-    (talk ≡ Err shell.Listen → Rose (s.faults source_before) (s.faults source_now)) →
-    (talk ≢ Err shell.Listen → s.faults source_now ≡ s.faults source_before) →
-    (talk ≡ Err shell.Say → Rose (k.faults sink_before) (k.faults sink_now)) →
-    (talk ≢ Err shell.Say → k.faults sink_now ≡ k.faults sink_before) →
-    s.taken source_now ≤ s.taken source_before + (limit_of limit.Questions + 1) →
+    CountsRun s k talk source_before source_now sink_before sink_now →
     CountsTalk s k (ended shell_outcome talk) source_before source_now sink_before sink_now
-CountsTalk-run s k talk source_before source_now sink_before sink_now listen unheard say unsaid within = grind (arith)
+CountsTalk-run s k talk source_before source_now sink_before sink_now ran = grind (arith)
+
+-- one that listened to nothing counts what its sink did
+pub CountsTalk-unheard : {S K : Type 0} (s : OfSource S) (k : OfSink K) (result : Outcome) (source : S)
+    (sink_before sink_now : K) → result ≢ outcome.ListenFailed →
+    SinkCounts k sink_before sink_now (result ≡ outcome.SayFailed) →
+    CountsTalk s k result source source sink_before sink_now
+CountsTalk-unheard s k result source sink_before sink_now unheard counts = record {
+  listen_cause = λ is. absurd (unheard is);
+  listen_untouched = λ _. refl;
+  say_cause = counts.cause;
+  say_untouched = counts.untouched;
+  within = omega arith;
+}
 
 -- a talk decides nothing that comes before it
 pub ended-late : (talk : Result (Unit {0}) ShellFault) → is_early (ended shell_outcome talk) ≡ false
 ended-late talk = grind (arith)
+
+-- and saves nothing
+pub ended-unsaved : (talk : Result (Unit {0}) ShellFault) → ended shell_outcome talk ≢ outcome.SaveFailed
+ended-unsaved talk is = grind (arith)

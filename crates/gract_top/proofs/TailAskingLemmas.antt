@@ -15,14 +15,16 @@ use Rattle.track_index.proofs.DecidingLemmas.{parts_in-file}
 use Rattle.track_index.proofs.OpeningLemmas.{bytes_cost-read}
 use Rattle.gract_top.specs.Beginning.{progress}
 use Rattle.gract_top.specs.Completeness.{HasIndex, HasQuestions, HasTail}
+use Rattle.gract_top.specs.Counting.{CountsFiles}
 use Rattle.gract_top.specs.Outcome.{AnswersSource, Talk}
 use Rattle.gract_top.specs.Refusal.{is_early}
 use Rattle.gract_top.specs.TailAsking.{AnswersTailed, EndsAskTail, tailed_meaning}
 use Rattle.gract_top.specs.TailOpening.{OpensTailed, StopsAtEither, settings_in}
 use Rattle.gract_top.specs.declared.outcome.Outcome.{Outcome}
 use Rattle.gract_top.specs.declared.outcome.Outcome.TheVariants as outcome
-use Rattle.gract_top.proofs.CompletenessLemmas.{IsGood, by_cause, questions-short}
+use Rattle.gract_top.proofs.CompletenessLemmas.{IsGood, IsUntroubled, by_cause, questions-short}
 use Rattle.gract_top.proofs.EndsLemmas.{is_early-refusal}
+use Rattle.gract_top.proofs.StoppingLemmas.{CountsFiles-same}
 use Rattle.gract_top.proofs.TailOpeningLemmas.{OpensTailed-unsaved, StopsAtEither-good}
 
 -- the bytes of an index file are opened within the cost of its parts
@@ -44,19 +46,23 @@ module _ (result : Outcome) (index csv : List ℕ) (untouched : Type 0) (files_b
   where
     -- a call that ended at one of its files
     pub EndsAskTail-stopped : StopsAtEither result index csv (progress files_before before.steps) (progress files_now now.steps) →
-        untouched → EndsAskTail result index csv untouched files_before files_now before now
-    EndsAskTail-stopped stops same = grind (arith)
+        CountsFiles result files_before files_now → untouched →
+        EndsAskTail result index csv untouched files_before files_now before now
+    EndsAskTail-stopped stops counts same = grind (arith)
 
     -- a call that went on from both
     pub EndsAskTail-opened : (parts : Parts) (tail : Option ChartView) (opened : ℕ) → is_early result ≡ false →
+        result ≢ outcome.SaveFailed →
         OpensTailed index csv parts tail (progress files_before before.steps) (progress files_now opened) →
         IsAsBuiltTogether (chart_in parts) tail →
         AnswersSource result untouched (tailed_meaning parts tail) (record before { steps = opened }) now →
         EndsAskTail result index csv untouched files_before files_now before now
-    EndsAskTail-opened parts tail opened late opens together answers =
+    EndsAskTail-opened parts tail opened late unsaved opens together answers =
         let bytes = opens.opens.bytes in
         let same : bytes_cost bytes ≡ open_cost parts = bytes_cost-file bytes parts opens.opens.file in
         record {
+          counts = CountsFiles-same result files_before files_now unsaved
+              (opens.grids.load_faults ∙ opens.opens.load_faults) (opens.grids.save_faults ∙ opens.opens.save_faults);
           unsaved = OpensTailed-unsaved index csv parts tail (progress files_before before.steps) (progress files_now opened) opens;
           ended = inr (record {
             late = late;
@@ -73,17 +79,15 @@ module _ (result : Outcome) (index csv : List ℕ) (untouched : Type 0) (files_b
 module _ (result : Outcome) (index csv : List ℕ) (untouched : Type 0) (files_before files_now : FilesState)
     (before now : Talk) (ready : HasIndex files_before.map index)
     (tail : HasTail files_before.map csv (settings_in ready.parts)) (lines : HasQuestions before.rest)
-    (words : (place : ℕ) → result ≢ outcome.Words place) (save : result ≢ outcome.SaveFailed)
-    (listen : result ≢ outcome.ListenFailed) (say : result ≢ outcome.SayFailed)
+    (untroubled : IsUntroubled result)
     (calm : Rose files_before.load_faults files_now.load_faults → ⊥)
   where
     -- what holds where the lines were answered
     answers-good : AnswersTailed result index csv untouched files_before files_now before now → IsGood result
     answers-good over =
         let Over : Outcome → Type 0 = λ other. AnswersTailed other index csv untouched files_before files_now before now in
-        by_cause result words
+        by_cause result untroubled
         (λ failed. false≢true (sym over.late ∙ ap is_early failed))
-        save listen say
         (λ refusal. false≢true (sym over.late ∙ is_early-refusal result refusal))
         (λ flaw is. (subst Over is over).answers.answered)
         (λ value is.
@@ -97,6 +101,6 @@ module _ (result : Outcome) (index csv : List ℕ) (untouched : Type 0) (files_b
     ask_tail-good ends = elim ends.ended [
       | inl stops ↦
           StopsAtEither-good index csv (progress files_before before.steps) ready tail result (progress files_now now.steps)
-          words save listen say calm stops.0
+          untroubled calm stops.0
       | inr over ↦ answers-good over
     ]

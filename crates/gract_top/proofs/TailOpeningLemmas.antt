@@ -19,7 +19,7 @@ use Rattle.gract_top.specs.declared.outcome.Outcome.{Outcome}
 use Rattle.gract_top.specs.declared.outcome.Outcome.TheVariants as outcome
 use Rattle.gract_top.specs.declared.request.Settings.{Settings}
 use Rattle.gract_top.proofs.BeginningLemmas.{OpensFile-parts, StopsAtIndex-memory}
-use Rattle.gract_top.proofs.CompletenessLemmas.{IsGood, by_cause, came-whole, file_named-found}
+use Rattle.gract_top.proofs.CompletenessLemmas.{IsGood, IsUntroubled, by_cause, came-whole, file_named-found}
 
 -- nothing was saved twice
 pub unsaved-twice : (before between now : FilesState) → SavesNothing before between → SavesNothing between now →
@@ -86,8 +86,7 @@ module _ (index csv : List ℕ) (before : Progress) (ready : HasIndex before.fil
         let HasBy : Parts → Type 0 = λ these. HasTail between.files.map csv (settings_in these) in
         subst HasBy (sym same) (subst Has (sym opens.unsaved.map) tail)
 
-    module _ (result : Outcome) (now : Progress) (words : (place : ℕ) → result ≢ outcome.Words place)
-        (save : result ≢ outcome.SaveFailed) (listen : result ≢ outcome.ListenFailed) (say : result ≢ outcome.SayFailed)
+    module _ (result : Outcome) (now : Progress) (untroubled : IsUntroubled result)
         (calm : Rose before.files.load_faults now.files.load_faults → ⊥)
       where
         -- what ends at the tail's file, which is there, is out of memory
@@ -95,12 +94,11 @@ module _ (index csv : List ℕ) (before : Progress) (ready : HasIndex before.fil
             StopsAtTail result parts csv between now → IsGood result
         tail-memory parts between opens stops =
             let held = HasTail-opened parts between opens in
-            by_cause result words
+            by_cause result untroubled
             (λ failed. elim (stops.loading.one.load_failed failed) [
               | inl rose ↦ calm (rw opens.load_faults at rose)
               | inr missing ↦ file_named-found between.files.map held.files csv held.bytes held.told held.holds missing
             ])
-            save listen say
             (λ refusal. tail-kept between.files.map now.files.loads now.files.taken csv (settings_in parts) result held stops.none
             refusal)
             (λ flaw is. false≢true (sym stops.none.early ∙ ap is_late is))

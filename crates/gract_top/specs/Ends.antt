@@ -1,4 +1,5 @@
--- How a call ends, by its command: what came of the file that it loads, what was saved, and what was answered.
+-- How a call ends, by its command: what came of the file that it loads, what was saved and what was answered, and which
+-- count of files changed.
 use Rattle.std.specs.Prelude.{◌≡◌, ◌≢◌, ℕ, ◌+◌, ◌*◌, ◌≤◌, ⊤, true, List, ◌∷◌, length, Option, None, ◌⊎◌}
 use Rattle.host_ports.specs.FileMap.{IsSaved, KeepsOthers}
 use Rattle.host_ports.specs.FilesState.{FilesState, IsPlain}
@@ -18,6 +19,7 @@ use Rattle.index_merge.specs.Cost.{union_cost}
 use Rattle.index_merge.specs.Extension.{extension_cost, extension_fault}
 use Rattle.index_merge.specs.MergeFault.{merge_fault}
 use Rattle.path_union.specs.Union.{rows_of_tail}
+use Rattle.gract_top.specs.Counting.{CountsFiles}
 use Rattle.gract_top.specs.Beginning.{BeginsFirst, BeginsOne, EndsLoading, NotLoaded, Progress, SavesNothing, progress}
 use Rattle.gract_top.specs.Extending.{IsExtendedAsBuilt, NotExtended, extension_bytes}
 use Rattle.gract_top.specs.Merging.{IsMergedAsBuilt, NotMerged, union_bytes}
@@ -65,6 +67,7 @@ pub record AnswersChart (result : Outcome) (csv : List ℕ) (settings : Settings
 -- How a call of `once` ends.
 pub record EndsOnce (result : Outcome) (csv : List ℕ) (settings : Settings) (untouched : Type 0)
     (before now : OutsideView) : Type 0 where
+  pub counts : CountsFiles result before.files now.files
   pub loading : EndsLoading result csv limit.Csv before.files now.files
   pub unsaved : SavesNothing before.files now.files
   -- the file was refused for its bytes
@@ -96,6 +99,7 @@ pub record SavesChart (result : Outcome) (csv index : List ℕ) (settings : Sett
 -- How a call of `build` ends.
 pub record EndsBuild (result : Outcome) (csv index : List ℕ) (settings : Settings) (before now : FilesState) :
     Type 0 where
+  pub counts : CountsFiles result before now
   pub loading : EndsLoading result csv limit.Csv before now
   -- the file was refused for its bytes
   pub refused : is_bytes_refusal result ≡ true → IsRefused before.map now.loads now.taken csv settings result
@@ -111,6 +115,7 @@ pub record AnswersFile (result : Outcome) (index : List ℕ) (untouched : Type 0
 
 -- How a call of `ask` ends.
 pub record EndsAsk (result : Outcome) (index : List ℕ) (untouched : Type 0) (before now : OutsideView) : Type 0 where
+  pub counts : CountsFiles result before.files now.files
   pub loading : EndsLoading result index limit.Index before.files now.files
   pub unsaved : SavesNothing before.files now.files
   pub given : now.given ≡ before.given
@@ -141,6 +146,7 @@ pub record UpgradesFile (result : Outcome) (index name : List ℕ) (before now :
 -- How a call of `upgrade` ends.
 pub record EndsUpgrade (result : Outcome) (index name : List ℕ) (before now : FilesState) (steps_before steps_now : ℕ) :
     Type 0 where
+  pub counts : CountsFiles result before now
   pub loading : BeginsOne result index limit.Index before now
   pub ended : (NotLoaded result limit.Index index before now × SavesNothing before now × (steps_now ≡ steps_before))
       ⊎ UpgradesFile result index name before now steps_before steps_now
@@ -163,11 +169,11 @@ pub record MergesParts (result : Outcome) (left right : Parts) (name : List ℕ)
 
 -- How a call of `merge` ends: at the first file, else at the second, else over what both hold. The second file is begun
 -- where the first one was opened.
-abbrev pub EndsMerge : Outcome → List ℕ → List ℕ → List ℕ → Progress → Progress → Type 0
-EndsMerge result left right name before now =
-    BeginsFirst result left before now (λ first between.
-    BeginsFirst result right between now (λ second opened.
-    MergesParts result first second name before.files opened now))
+pub record EndsMerge (result : Outcome) (left right name : List ℕ) (before now : Progress) : Type 0 where
+  pub counts : CountsFiles result before.files now.files
+  pub ended : BeginsFirst result left before now (λ first between.
+      BeginsFirst result right between now (λ second opened.
+      MergesParts result first second name before.files opened now))
 
 -- What an index holds and a tail were saved as one, or the save failed.
 pub record SavesExtension (result : Outcome) (parts : Parts) (tail : Option ChartView) (name : List ℕ)
@@ -191,10 +197,10 @@ pub record ExtendsParts (result : Outcome) (index csv name : List ℕ) (before n
   pub taken : now.files.taken ≡ opened.files.taken
 
 -- How a call of `extend` ends: at one of its files, or over both.
-abbrev pub EndsExtend : Outcome → List ℕ → List ℕ → List ℕ → Progress → Progress → Type 0
-EndsExtend result index csv name before now =
-    (StopsAtEither result index csv before now × SavesNothing before.files now.files)
-    ⊎ ExtendsParts result index csv name before now
+pub record EndsExtend (result : Outcome) (index csv name : List ℕ) (before now : Progress) : Type 0 where
+  pub counts : CountsFiles result before.files now.files
+  pub ended : (StopsAtEither result index csv before now × SavesNothing before.files now.files)
+      ⊎ ExtendsParts result index csv name before now
 
 -- How the call that a request asks for ends, where it is not refused. `unheard` says that the source is as it was, and
 -- `unsaid` that the sink is.

@@ -1,5 +1,5 @@
 -- The outcome of each fault by which a stage of a command ends.
-use Rattle.std.specs.Prelude.{◌≡◌, ◌≢◌, ℕ, Result, Ok, Err}
+use Rattle.std.specs.Prelude.{Result, Ok, Err}
 use Rattle.track_types.specs.declared.format_fault.FormatFault.{FormatFault}
 use Rattle.track_types.specs.declared.format_fault.FormatFault.TheVariants as format
 use Rattle.track_types.specs.declared.limit.LimitKind.{LimitKind}
@@ -8,6 +8,8 @@ use Rattle.row_reader.specs.declared.fault.RowsFault.{RowsFault}
 use Rattle.row_reader.specs.declared.fault.RowsFault.TheVariants as rows
 use Rattle.question_shell.specs.declared.shell_fault.ShellFault.{ShellFault}
 use Rattle.question_shell.specs.declared.shell_fault.ShellFault.TheVariants as shell
+use Rattle.question_shell.specs.declared.turn_fault.TurnFault.{TurnFault}
+use Rattle.question_shell.specs.declared.turn_fault.TurnFault.TheVariants as turn
 use Rattle.gract_top.specs.Merging.{merge_outcome}
 use Rattle.gract_top.specs.declared.fault.AskFault.{AskFault}
 use Rattle.gract_top.specs.declared.fault.AskFault.TheVariants as ask
@@ -61,6 +63,11 @@ shell_outcome shell.Say = outcome.SayFailed
 shell_outcome (shell.Limit value) = outcome.Limit limit.Questions value
 shell_outcome shell.Memory = outcome.Memory
 
+-- the outcome of a reply that was cut off
+abbrev pub turn_outcome : TurnFault → Outcome
+turn_outcome turn.Say = outcome.SayFailed
+turn_outcome turn.Memory = outcome.Memory
+
 -- the outcome of a command that saves, where nothing was
 abbrev pub save_outcome : SaveFault → Outcome
 save_outcome (save.Chart fault) = chart_outcome fault
@@ -68,7 +75,7 @@ save_outcome (save.Index fault) = index_outcome fault
 save_outcome (save.Merge fault) = merge_outcome fault
 save_outcome save.Failed = outcome.SaveFailed
 
--- the outcome of a command that answers questions, where it did not answer all
+-- the outcome of a command that answers questions or says a summary, where it did not do all of that
 abbrev pub ask_outcome : AskFault → Outcome
 ask_outcome (ask.Chart fault) = chart_outcome fault
 ask_outcome (ask.Index fault) = index_outcome fault
@@ -78,16 +85,3 @@ ask_outcome (ask.Talk fault) = shell_outcome fault
 abbrev pub ended : {E : Type 0} → (E → Outcome) → Result (Unit {0}) E → Outcome
 ended outcome_of (Ok done) = outcome.Done
 ended outcome_of (Err fault) = outcome_of fault
-
--- The outcome of a command that saves. Its type tells that neither the words nor a source or a sink are at fault.
-pub record IsSaveEnd (end : Result (Unit {0}) SaveFault) (result : Outcome) : Type 0 where
-  pub is : result ≡ ended save_outcome end
-  pub words : (place : ℕ) → result ≢ outcome.Words place
-  pub heard : result ≢ outcome.ListenFailed
-  pub said : result ≢ outcome.SayFailed
-
--- The outcome of a command that answers questions. Its type tells that neither the words nor a save are at fault.
-pub record IsAskEnd (end : Result (Unit {0}) AskFault) (result : Outcome) : Type 0 where
-  pub is : result ≡ ended ask_outcome end
-  pub words : (place : ℕ) → result ≢ outcome.Words place
-  pub unsaved : result ≢ outcome.SaveFailed

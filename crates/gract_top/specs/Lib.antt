@@ -3,12 +3,12 @@ pub mod Loading
 pub mod Refusal
 pub mod Receiving
 pub mod Cost
+pub mod Counting
 pub mod Outcome
 pub mod Summary
 pub mod Sampling
 pub mod Upgrading
 pub mod Beginning
-pub mod Counting
 pub mod Saving
 pub mod Merging
 pub mod Faults

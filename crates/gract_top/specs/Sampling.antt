@@ -16,6 +16,7 @@ use Rattle.snapshots.specs.Parts.{chart_in}
 use Rattle.track_index.specs.Facts.{facts_of}
 use Rattle.track_index.specs.Opening.{IsFile}
 use Rattle.gract_top.specs.Cost.{question_cost}
+use Rattle.gract_top.specs.Counting.{CountsFiles}
 use Rattle.gract_top.specs.Outcome.{OpensOnly, Unopened}
 use Rattle.gract_top.specs.Refusal.{grid_refusal, is_bytes_refusal}
 use Rattle.gract_top.specs.Summary.{summary_cost, summary_of}
@@ -33,6 +34,11 @@ sample_refusal settings =
     if nat_lt (limit_of limit.Rows) (settings.objects * settings.instants)
     then Some (outcome.Limit limit.Rows (settings.objects * settings.instants))
     else grid_refusal (grid_limit (sample_rows settings.objects settings.instants settings.seed) 1 1 settings.period)
+
+-- Why a sample has no index: its refusal, or out of memory.
+abbrev pub NotSampled : Outcome → SampleSettings → Type 0
+NotSampled result settings =
+    (result ≡ outcome.Memory) ⊎ ((is_bytes_refusal result ≡ true) × (sample_refusal settings ≡ Some result))
 
 -- What is known of a sink at a moment, and how many reads were counted.
 pub record Speech : Type 0 where
@@ -96,6 +102,7 @@ SumsNothing unsaid before now = unsaid × (now.steps ≡ before.steps)
 -- How a call of `sample` ends. The files are as they were, but for what they give next.
 pub record EndsSample (result : Outcome) (settings : SampleSettings) (unsaid : Type 0) (files_before files_now : FilesState)
     (given : List ℕ → List ℕ) (before now : Speech) : Type 0 where
+  pub counts : CountsFiles result files_before files_now
   pub kept : files_now ≡ files_before
   pub refused : is_bytes_refusal result ≡ true →
       (sample_refusal settings ≡ Some result) × SumsNothing unsaid before now

@@ -11,6 +11,7 @@ use Rattle.live_tail.specs.Facts.{facts_with}
 use Rattle.live_tail.specs.Join.{IsAsBuiltTogether, joint_chart}
 use Rattle.question_shell.specs.Session.{Meaning, meaning_of}
 use Rattle.gract_top.specs.Beginning.{SavesNothing, progress}
+use Rattle.gract_top.specs.Counting.{CountsFiles}
 use Rattle.gract_top.specs.Outcome.{AnswersSource, Talk}
 use Rattle.gract_top.specs.Refusal.{is_early}
 use Rattle.gract_top.specs.TailOpening.{OpensTailed, StopsAtEither}
@@ -37,6 +38,7 @@ pub record AnswersTailed (result : Outcome) (index csv : List ℕ) (untouched : 
 -- How a call of `ask` with a tail ends: at one of its files, or over both.
 pub record EndsAskTail (result : Outcome) (index csv : List ℕ) (untouched : Type 0) (files_before files_now : FilesState)
     (before now : Talk) : Type 0 where
+  pub counts : CountsFiles result files_before files_now
   pub unsaved : SavesNothing files_before files_now
   pub ended : (StopsAtEither result index csv (progress files_before before.steps) (progress files_now now.steps) × untouched)
       ⊎ AnswersTailed result index csv untouched files_before files_now before now

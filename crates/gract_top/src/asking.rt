@@ -1,6 +1,5 @@
 ghost use Rattle.std.specs.Prelude.{◌≡◌};
-ghost use Rattle.host_ports.specs.Meanings.{files_at};
-ghost use Rattle.gract_top.specs.Counting.{CountsFiles, CountsTalk};
+ghost use Rattle.gract_top.specs.Counting.{CountsTalk};
 ghost use Rattle.gract_top.specs.Ends.{EndsAsk, EndsOnce, moment_of};
 ghost use Rattle.gract_top.specs.Faults.{ask_outcome, ended};
 ghost use Rattle.gract_top.specs.Request.{AreSettings};
@@ -31,8 +30,6 @@ pub(crate) fn once<F: Files, S: Source, K: Sink, L: Ledger>(
         ((source.new ≡ source.old) × (sink.new ≡ sink.old))
         (moment_of F.Files S.Source K.Sink files.old source.old sink.old steps.old)
         (moment_of F.Files S.Source K.Sink files.new source.new sink.new steps.new) }
-    ensures counts { CountsFiles (ended ask_outcome result)
-        (files_at F.Files files.old) (files_at F.Files files.new) }
     ensures talk { CountsTalk S.Source K.Sink (ended ask_outcome result) source.old source.new sink.old sink.new }
 {
     let bytes = chart_bytes(alloc, csv, settings, files)?;
@@ -53,8 +50,6 @@ pub(crate) fn ask<F: Files, S: Source, K: Sink, L: Ledger>(
         ((source.new ≡ source.old) × (sink.new ≡ sink.old))
         (moment_of F.Files S.Source K.Sink files.old source.old sink.old steps.old)
         (moment_of F.Files S.Source K.Sink files.new source.new sink.new steps.new) }
-    ensures counts { CountsFiles (ended ask_outcome result)
-        (files_at F.Files files.old) (files_at F.Files files.new) }
     ensures talk { CountsTalk S.Source K.Sink (ended ask_outcome result) source.old source.new sink.old sink.new }
 {
     let bytes = load_index(alloc, index, files)?;

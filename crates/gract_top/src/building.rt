@@ -1,6 +1,5 @@
 ghost use Rattle.std.specs.Prelude.{◌≡◌, false};
 ghost use Rattle.host_ports.specs.Meanings.{files_at};
-ghost use Rattle.gract_top.specs.Counting.{CountsFiles};
 ghost use Rattle.gract_top.specs.Ends.{EndsBuild, Saved};
 ghost use Rattle.gract_top.specs.Faults.{ended, save_outcome};
 ghost use Rattle.gract_top.specs.Refusal.{is_early};
@@ -23,8 +22,6 @@ pub(crate) fn build<F: Files>(
 ) -> Result<(), SaveFault>
     requires { AreSettings settings }
     ensures ends { EndsBuild (ended save_outcome result) csv.now index.now settings
-        (files_at F.Files files.old) (files_at F.Files files.new) }
-    ensures counts { CountsFiles (ended save_outcome result)
         (files_at F.Files files.old) (files_at F.Files files.new) }
     ensures given { F.given files.new ≡ F.given files.old }
 {

@@ -86,7 +86,7 @@ pub fn gract<F: Files, S: Source, K: Sink, L: Ledger>(
         Request::AskTail { index, tail } => {
             ask_tail(alloc, index, tail, files, source, sink, steps).into()
         }
-        Request::Sample { settings } => sample(alloc, settings, files, sink, steps),
+        Request::Sample { settings } => sample(alloc, settings, files, sink, steps).into(),
         Request::Upgrade { old, new } => upgrade(alloc, old, new, files, steps).into(),
         Request::Merge { left, right, out } => merge(alloc, left, right, out, files, steps).into(),
         Request::Extend { index, tail, out } => extend(

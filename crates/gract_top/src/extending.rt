@@ -3,7 +3,6 @@ ghost use Rattle.host_ports.specs.Meanings.{files_at};
 ghost use Rattle.index_merge.specs.Extension.{extension_cost, extension_fault, IsAsBuilt};
 ghost use Rattle.path_union.specs.Union.{rows_of_tail};
 ghost use Rattle.gract_top.specs.Beginning.{SavesNothing, progress};
-ghost use Rattle.gract_top.specs.Counting.{CountsFiles};
 ghost use Rattle.gract_top.specs.Ends.{EndsExtend, SavesExtension};
 ghost use Rattle.gract_top.specs.Extending.{NotExtended, extension_bytes};
 ghost use Rattle.gract_top.specs.Faults.{chart_outcome, ended, save_outcome};
@@ -36,8 +35,6 @@ pub(crate) fn extend<F: Files, L: Ledger>(
     ensures ends { EndsExtend (ended save_outcome result) index.now tail.now out.now
         (progress (files_at F.Files files.old) steps.old)
         (progress (files_at F.Files files.new) steps.new) }
-    ensures counts { CountsFiles (ended save_outcome result)
-        (files_at F.Files files.old) (files_at F.Files files.new) }
     ensures given { F.given files.new ≡ F.given files.old }
 {
     let index = open_file(alloc, index, files, steps)?;

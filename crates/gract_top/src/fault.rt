@@ -54,7 +54,7 @@ pub(crate) enum SaveFault {
     Failed,
 }
 
-/// Why a command did not answer all questions.
+/// Why a command did not answer all questions, or say all of a summary.
 #[derive(Clone, Copy, Debug, PartialEq, Eq)]
 pub(crate) enum AskFault {
     Chart(ChartFault),

@@ -1,8 +1,8 @@
 ghost use Rattle.std.specs.Prelude.{◌≡◌};
 ghost use Rattle.track_types.specs.declared.limit.LimitKind.TheVariants as limit;
 ghost use Rattle.gract_top.specs.Extending.{extension_outcome};
-ghost use Rattle.gract_top.specs.Faults.{IsAskEnd, IsSaveEnd, ask_outcome, chart_outcome, ended, format_outcome};
-ghost use Rattle.gract_top.specs.Faults.{index_outcome, load_outcome, rows_outcome, shell_outcome};
+ghost use Rattle.gract_top.specs.Faults.{ask_outcome, chart_outcome, ended, format_outcome, index_outcome, load_outcome};
+ghost use Rattle.gract_top.specs.Faults.{rows_outcome, save_outcome, shell_outcome, turn_outcome};
 ghost use Rattle.gract_top.specs.Merging.{merge_outcome};
 ghost use Rattle.gract_top.specs.declared.fault.AskFault.TheVariants as ask;
 ghost use Rattle.gract_top.specs.declared.fault.ChartFault.TheVariants as chart;
@@ -16,7 +16,7 @@ use gridding::GridFault;
 use host_ports::Failed;
 use index_format::FormatFault;
 use index_merge::MergeFault;
-use question_shell::ShellFault;
+use question_shell::{ShellFault, TurnFault};
 use row_reader::RowsFault;
 use std::alloc::AllocError;
 use track_types::{LimitKind, Memory};
@@ -182,6 +182,14 @@ impl From<ShellFault> for AskFault {
     }
 }
 
+impl From<TurnFault> for AskFault {
+    ghost from_gives = { λ cause fault. ask_outcome fault ≡ turn_outcome cause };
+
+    fn from(cause: TurnFault) -> Self {
+        AskFault::Talk(cause.into())
+    }
+}
+
 impl From<ChartFault> for Outcome {
     ghost from_gives = { λ fault outcome. outcome ≡ chart_outcome fault };
 
@@ -251,7 +259,7 @@ impl From<ShellFault> for Outcome {
 }
 
 impl From<Result<(), SaveFault>> for Outcome {
-    ghost from_gives = { IsSaveEnd };
+    ghost from_gives = { λ end outcome. outcome ≡ ended save_outcome end };
 
     fn from(end: Result<(), SaveFault>) -> Self {
         match end {
@@ -265,7 +273,7 @@ impl From<Result<(), SaveFault>> for Outcome {
 }
 
 impl From<Result<(), AskFault>> for Outcome {
-    ghost from_gives = { IsAskEnd };
+    ghost from_gives = { λ end outcome. outcome ≡ ended ask_outcome end };
 
     fn from(end: Result<(), AskFault>) -> Self {
         match end {
@@ -282,4 +290,11 @@ pub(crate) fn end_of_talk(talk: Result<(), ShellFault>) -> Result<(), AskFault>
     ensures { ended ask_outcome result ≡ ended shell_outcome talk }
 {
     Ok(talk?)
+}
+
+// The end of a command that ends as its summary does.
+pub(crate) fn end_of_summary(said: Result<(), TurnFault>) -> Result<(), AskFault>
+    ensures { ended ask_outcome result ≡ ended turn_outcome said }
+{
+    Ok(said?)
 }

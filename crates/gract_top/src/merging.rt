@@ -5,7 +5,6 @@ ghost use Rattle.index_merge.specs.Extension.{IsAsBuilt};
 ghost use Rattle.index_merge.specs.MergeFault.{IsMergeFaultFor, merge_fault};
 ghost use Rattle.snapshots.specs.Parts.{chart_in};
 ghost use Rattle.gract_top.specs.Beginning.{SavesNothing, progress};
-ghost use Rattle.gract_top.specs.Counting.{CountsFiles};
 ghost use Rattle.gract_top.specs.Ends.{EndsMerge, SavesUnion};
 ghost use Rattle.gract_top.specs.Faults.{ended, save_outcome};
 ghost use Rattle.gract_top.specs.Merging.{NotMerged, union_bytes};
@@ -34,8 +33,6 @@ pub(crate) fn merge<F: Files, L: Ledger>(
     ensures ends { EndsMerge (ended save_outcome result) left.now right.now out.now
         (progress (files_at F.Files files.old) steps.old)
         (progress (files_at F.Files files.new) steps.new) }
-    ensures counts { CountsFiles (ended save_outcome result)
-        (files_at F.Files files.old) (files_at F.Files files.new) }
     ensures given { F.given files.new ≡ F.given files.old }
 {
     let first = open_file(alloc, left, files, steps)?;

@@ -5,7 +5,7 @@ ghost use Rattle.live_tail.specs.View.{IsOfFrame};
 ghost use Rattle.snapshots.specs.Parts.{chart_in};
 ghost use Rattle.encounter.specs.WalkedCost.{walked_cost};
 ghost use Rattle.question_shell.specs.Session.{meaning_of};
-ghost use Rattle.gract_top.specs.Counting.{CountsFiles, CountsTalk};
+ghost use Rattle.gract_top.specs.Counting.{CountsTalk};
 ghost use Rattle.gract_top.specs.Faults.{ask_outcome, ended, shell_outcome};
 ghost use Rattle.gract_top.specs.Outcome.{AnswersSource, talk_of};
 ghost use Rattle.gract_top.specs.TailAsking.{EndsAskTail, tailed_meaning};
@@ -41,8 +41,6 @@ pub(crate) fn ask_tail<F: Files, S: Source, K: Sink, L: Ledger>(
         (files_at F.Files files.old) (files_at F.Files files.new)
         (talk_of S.Source K.Sink source.old sink.old steps.old)
         (talk_of S.Source K.Sink source.new sink.new steps.new) }
-    ensures counts { CountsFiles (ended ask_outcome result)
-        (files_at F.Files files.old) (files_at F.Files files.new) }
     ensures talk { CountsTalk S.Source K.Sink (ended ask_outcome result) source.old source.new sink.old sink.new }
     ensures given { F.given files.new ≡ F.given files.old }
 {

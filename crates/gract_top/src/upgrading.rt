@@ -9,7 +9,6 @@ ghost use Rattle.track_types.specs.declared.limit.LimitKind.TheVariants as limit
 ghost use Rattle.track_types.specs.declared.limit.TheConstants.{MAX_INDEX};
 ghost use Rattle.track_types.specs.declared.parts.Parts.{Parts as WholeParts};
 ghost use Rattle.gract_top.specs.Beginning.{SavesNothing};
-ghost use Rattle.gract_top.specs.Counting.{CountsFiles};
 ghost use Rattle.gract_top.specs.Ends.{EndsUpgrade, SavesUpgrade};
 ghost use Rattle.gract_top.specs.Faults.{ended, index_outcome, save_outcome};
 ghost use Rattle.gract_top.specs.Saving.{SavesOnly};
@@ -37,8 +36,6 @@ pub(crate) fn upgrade<F: Files, L: Ledger>(
 ) -> Result<(), SaveFault>
     ensures ends { EndsUpgrade (ended save_outcome result) old.now new.now
         (files_at F.Files files.old) (files_at F.Files files.new) steps.old steps.new }
-    ensures counts { CountsFiles (ended save_outcome result)
-        (files_at F.Files files.old) (files_at F.Files files.new) }
     ensures given { F.given files.new ≡ F.given files.old }
 {
     let bytes = load_index(alloc, old, files)?;

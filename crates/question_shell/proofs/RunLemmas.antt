@@ -1,21 +1,56 @@
 -- From what is told of lines to what a run promises.
-use Rattle.std.proofs.Common.{◌≡◌, ℕ, ◌+◌, ◌≤◌, List, [], ◌++◌, length, sym, ap, ◌∙◌, subst, arith, Err, refl}
+use Rattle.std.proofs.Common.{◌≡◌, ℕ, ◌+◌, ◌≤◌, List, [], ◌++◌, length, sym, ap, ◌∙◌, subst, arith, Result, Ok, Err, refl}
 use Rattle.std.proofs.Common.{append-nil, inl, inr, take, drop}
 use Rattle.std.specs.Io.KnownBytes.{Consumes, Keeps}
+use Rattle.host_ports.specs.Counting.{SinkCounts}
 use Rattle.host_ports.specs.Histories.{Gains}
+use Rattle.host_ports.specs.declared.sink.Sink.{Ghosts as OfSink}
+use Rattle.host_ports.specs.declared.source.Source.{Ghosts as OfSource}
 use Rattle.std.proofs.lemmas.List.{take-append-drop}
 use Rattle.track_types.specs.Limits.{limit_of}
 use Rattle.track_types.specs.declared.limit.LimitKind.TheVariants.{Questions}
 use Rattle.question_shell.specs.Desk.{held_of}
 use Rattle.question_shell.specs.Lines.{input_lines, unended_line, whole_lines}
+use Rattle.question_shell.specs.RunEnds.{AnswersRun, CountsRun, fault_of_turn}
 use Rattle.question_shell.specs.Session.{AnswersAll, AnswersBefore, AnswersFirst, AnswersFront, AnswersToPiece}
 use Rattle.question_shell.specs.Session.{AnswersWhole, AreTaken, Came, HasEnded, Meaning, Run}
 use Rattle.question_shell.specs.Turns.{BytesTold, Heard, AnswersLines, Moment, AnswersBytes, Turns, TurnsFront}
+use Rattle.question_shell.specs.declared.shell_fault.ShellFault.{ShellFault}
+use Rattle.question_shell.specs.declared.shell_fault.ShellFault.TheVariants as shell
 use Rattle.question_shell.specs.declared.turn_fault.TurnFault.{TurnFault}
 use Rattle.question_shell.specs.declared.turn_fault.TurnFault.TheVariants as fault
 use Rattle.question_shell.proofs.SlotLemmas.{slots-independent}
 use Rattle.question_shell.proofs.SaysLemmas.{Gains-says}
 use Rattle.question_shell.proofs.SessionLemmas.{answers-turns, came-end, came-kept, came-more, heard-again, moment_of, told-more}
+
+module _ (meaning : Meaning) (before now : Run) where
+  -- what a run has to have answered, where it ends so
+  abbrev Answered : Result (Unit {0}) ShellFault → Type 0
+  Answered (Ok done) = AnswersAll meaning before now
+  Answered (Err shell.Listen) = AnswersWhole meaning before now
+  Answered (Err shell.Say) = AnswersFront meaning before now
+  Answered (Err (shell.Limit value)) = (value ≡ limit_of Questions + 1) × AnswersFirst meaning before now
+  Answered (Err shell.Memory) = AnswersBefore meaning before now
+
+  pub AnswersRun-answered : (result : Result (Unit {0}) ShellFault) → Answered result → AnswersRun meaning result before now
+  AnswersRun-answered result told = grind (arith)
+
+  -- a run that an answer cut off
+  AnswersRun-cut : (refused : TurnFault) → (refused ≡ fault.Say → AnswersFront meaning before now) →
+      (refused ≡ fault.Memory → AnswersBefore meaning before now) →
+      AnswersRun meaning (Err (fault_of_turn refused)) before now
+  AnswersRun-cut fault.Say front stopped = AnswersRun-answered (Err shell.Say) (front refl)
+  AnswersRun-cut fault.Memory front stopped = AnswersRun-answered (Err shell.Memory) (stopped refl)
+
+-- of a run that an answer cut off the sink alone counts a fault
+pub CountsRun-cut : {S K : Type 0} (s : OfSource S) (k : OfSink K) (source_before source_now : S)
+    (sink_before sink_here sink_now : K) (refused : TurnFault) → s.faults source_now ≡ s.faults source_before →
+    k.faults sink_here ≡ k.faults sink_before →
+    SinkCounts k sink_here sink_now (◌≡◌ {A = Result (Unit {0}) TurnFault} (Err refused) (Err fault.Say)) →
+    s.taken source_now ≤ s.taken source_before + (limit_of Questions + 1) →
+    CountsRun s k (Err (fault_of_turn refused)) source_before source_now sink_before sink_now
+CountsRun-cut s k source_before source_now sink_before sink_here sink_now fault.Say heard here counts within = grind (arith)
+CountsRun-cut s k source_before source_now sink_before sink_here sink_now fault.Memory heard here counts within = grind (arith)
 
 -- what is told of bytes is told of their whole lines
 pub told-whole : (meaning : Meaning) (start now : Moment) (all : List ℕ) (line : List ℕ) (refused : TurnFault) →
@@ -170,7 +205,7 @@ module _ {meaning : Meaning} {before here now : Run} {line : List ℕ} (stands :
         (told : (start : Moment) (came : List ℕ) → Heard meaning start (moment_of here) came line →
         AnswersLines meaning start (moment_of now) (input_lines came) (Err refused))
       where
-        pub front-end : refused ≡ fault.Say → AnswersFront meaning before now
+        front-end : refused ≡ fault.Say → AnswersFront meaning before now
         front-end say =
             let again = heard-again meaning (moment_of before) (moment_of here) stands.bytes line stands.heard in
             let last = last-piece meaning before here now stands.bytes stands.bytes [] line _ refused (sym (append-nil stands.bytes))
@@ -178,10 +213,13 @@ module _ {meaning : Meaning} {before here now : Run} {line : List ℕ} (stands :
             answers-front meaning before now stands.bytes came-here (omega (arith, stands.short)) (input_lines stands.bytes)
             (inr (ends.ended, refl)) refused (told (moment_of before) stands.bytes stands.heard) say last
 
-        pub before-end : refused ≡ fault.Memory → AnswersBefore meaning before now
+        before-end : refused ≡ fault.Memory → AnswersBefore meaning before now
         before-end memory =
             answers-before meaning before now stands.bytes came-here (omega (arith, stands.short)) (input_lines stands.bytes)
             (inr (ends.ended, refl)) refused (told (moment_of before) stands.bytes stands.heard) memory
+
+        pub cut-end : AnswersRun meaning (Err (fault_of_turn refused)) before now
+        cut-end = AnswersRun-cut meaning before now refused front-end before-end
 
   -- a piece more came, and was answered as far as it may be
   module _ {piece counted : List ℕ} (brings : Brings stands.bytes here now piece counted) (new : List ℕ) (refused : TurnFault)
@@ -195,7 +233,7 @@ module _ {meaning : Meaning} {before here now : Run} {line : List ℕ} (stands :
           refused-first meaning (moment_of before) (moment_of now) (stands.bytes ++ counted) (stands.bytes ++ piece) new refused
           brings.front (told (moment_of before) stands.bytes stands.heard)
 
-      pub front-piece : refused ≡ fault.Say → AnswersFront meaning before now
+      front-piece : refused ≡ fault.Say → AnswersFront meaning before now
       front-piece say =
           let again = heard-again meaning (moment_of before) (moment_of here) stands.bytes line stands.heard in
           let told_here = told-whole meaning (moment_of here) (moment_of now) _ new refused
@@ -205,7 +243,10 @@ module _ {meaning : Meaning} {before here now : Run} {line : List ℕ} (stands :
           answers-front meaning before now (stands.bytes ++ piece) came-piece brings.within (whole_lines (stands.bytes ++ piece)) (inl refl)
           refused told-piece say last
 
-      pub before-piece : refused ≡ fault.Memory → AnswersBefore meaning before now
+      before-piece : refused ≡ fault.Memory → AnswersBefore meaning before now
       before-piece memory =
           answers-before meaning before now (stands.bytes ++ piece) came-piece brings.within (whole_lines (stands.bytes ++ piece))
           (inl refl) refused told-piece memory
+
+      pub cut-piece : AnswersRun meaning (Err (fault_of_turn refused)) before now
+      cut-piece = AnswersRun-cut meaning before now refused front-piece before-piece

@@ -9,6 +9,7 @@ pub mod Reply
 pub mod Replies
 pub mod Slots
 pub mod Session
+pub mod RunEnds
 pub mod Drawing
 pub mod Says
 pub mod LineKept

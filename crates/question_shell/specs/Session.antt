@@ -1,6 +1,6 @@
 -- What came from a source, what was said for it, and what was read.
 use Rattle.std.specs.Prelude.{◌≡◌, ℕ, ◌+◌, ◌≤◌, Bool, true, false, List, [], ◌∷◌, ◌++◌, ◌⊎◌, length, take}
-use Rattle.std.specs.Prelude.{Option, Some, None, is_none, ⊤}
+use Rattle.std.specs.Prelude.{Option, Some, None, is_none}
 use Rattle.std.specs.Prelude.{Result, Ok, Err}
 use Rattle.std.specs.Io.KnownBytes.{Consumes, IsAtEnd}
 use Rattle.host_ports.specs.Histories.{Gains}
@@ -21,8 +21,6 @@ use Rattle.question_shell.specs.Replies.{costs_of, desk_after, replies_of}
 use Rattle.question_shell.specs.Items.{stops_at}
 use Rattle.question_shell.specs.Slots.{lines_of_slot, replies_to_each, replies_to_slot}
 use Rattle.question_shell.specs.declared.bad.Bad.{Bad}
-use Rattle.question_shell.specs.declared.shell_fault.ShellFault.{ShellFault}
-use Rattle.question_shell.specs.declared.shell_fault.ShellFault.TheVariants as shell_fault
 
 -- What an answerer means: a chart, its facts, and what each question may cost in reads.
 pub record Meaning : Type 0 where
@@ -93,14 +91,6 @@ pub record Answers (meaning : Meaning) (before now : Run) (lines : List (List �
   pub slots : AreIndependent meaning (held_of before.desk) lines
   pub reads : now.steps + budget_of now.desk
       ≤ before.steps + budget_of before.desk + costs_by meaning (held_of before.desk) lines
-
--- an answer that names no device: all was answered, too many bytes came, or memory was refused
-abbrev pub NamesNoDevice : Result Unit ShellFault → Type 0
-NamesNoDevice (Ok done) = ⊤
-NamesNoDevice (Err shell_fault.Listen) = ⊥
-NamesNoDevice (Err shell_fault.Say) = ⊥
-NamesNoDevice (Err (shell_fault.Limit value)) = ⊤
-NamesNoDevice (Err shell_fault.Memory) = ⊤
 
 -- The source was read to its end: its last answer was no bytes, and where it tells what is to come, that is nothing.
 pub record HasEnded (now : Run) : Type 0 where

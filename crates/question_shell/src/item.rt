@@ -53,7 +53,7 @@ fn write_sighting(line: &mut ReplyLine, sighting: Sighting)
 {
     line.begin_cell(sighting.cell);
     line.put_space();
-    line.put_count(sighting.object as u64);
+    line.put_count(u64::from(sighting.object));
 }
 
 // O T X Y
@@ -64,7 +64,7 @@ fn write_hit(line: &mut ReplyLine, hit: Hit)
     line.put_space();
     line.put_number(hit.instant);
     line.put_space();
-    line.put_count(hit.object as u64);
+    line.put_count(u64::from(hit.object));
 }
 
 // O X Y D2
@@ -78,7 +78,7 @@ fn write_near(line: &mut ReplyLine, near: Near)
     line.put_space();
     line.put_number(near.cell.x);
     line.put_space();
-    line.put_count(near.object as u64);
+    line.put_count(u64::from(near.object));
 }
 
 // T XA YA XB YB

@@ -57,7 +57,7 @@ fn placed_line(text: &str, place: u32) -> ReplyLine
     ensures { result ≡ said_line (text.now ++ decimal place) }
 {
     let mut line = ReplyLine::new();
-    line.put_count(place as u64);
+    line.put_count(u64::from(place));
     line.put_text(text);
     line
 }

@@ -9,6 +9,15 @@ use track_types::Cell;
 /// No line of a reply is longer; that of `meet` has up to 105 bytes.
 pub(crate) const LONGEST_REPLY: usize = 112;
 
+/// How many digits a number of 64 bits has at most.
+const LONGEST_COUNT: usize = 20;
+
+/// How many bytes one has at most that may be below zero.
+const LONGEST_NUMBER: usize = LONGEST_COUNT + 1;
+
+/// How many bytes X Y has at most.
+const LONGEST_CELL: usize = 2 * LONGEST_NUMBER + 1;
+
 /// A line of a reply, with its line feed.
 ///
 /// It is put together from its end, since a number's digits come from the last to the first: so a
@@ -21,12 +30,13 @@ pub(crate) struct ReplyLine {
 
 impl Model for ReplyLine {
     ghost use Rattle.std.specs.Prelude.{◌≡◌, ◌≤◌, ℕ, List, drop, length};
+    ghost use Rattle.question_shell.specs.declared.reply_line.TheConstants.{LONGEST_REPLY};
 
     ghost Value = { List ℕ };
 
     ghost view = { λ line. drop line.start line.bytes };
 
-    ghost invariant = { λ line. (line.start ≤ 112) × (length line.bytes ≡ 112) };
+    ghost invariant = { λ line. (line.start ≤ LONGEST_REPLY) × (length line.bytes ≡ LONGEST_REPLY) };
 }
 
 impl ReplyLine {
@@ -42,7 +52,7 @@ impl ReplyLine {
         line
     }
 
-    // Begins another line in its place.
+    // Begins another line in its place, as no more than a line feed. What stood there before is not read again.
     #[inline(always)]
     pub(crate) fn begin(&mut self)
         ensures { self.new ≡ 10 ∷ [] }
@@ -54,7 +64,7 @@ impl ReplyLine {
     // Puts a space before it.
     #[inline(always)]
     pub(crate) fn put_space(&mut self)
-        requires { length self.old < 112 }
+        requires { length self.old < LONGEST_REPLY }
         ensures { self.new ≡ 32 ∷ self.old }
     {
         self.put_byte(b' ');
@@ -62,7 +72,7 @@ impl ReplyLine {
 
     #[inline(always)]
     fn put_byte(&mut self, byte: u8)
-        requires { length self.old < 112 }
+        requires { length self.old < LONGEST_REPLY }
         ensures { self.new ≡ byte ∷ self.old }
     {
         self.start -= 1;
@@ -72,9 +82,9 @@ impl ReplyLine {
     // Puts a number before it.
     #[inline(always)]
     pub(crate) fn put_count(&mut self, count: u64)
-        requires { length self.old ≤ 92 }
+        requires { length self.old + LONGEST_COUNT ≤ LONGEST_REPLY }
         ensures text { self.new ≡ decimal count ++ self.old }
-        ensures short { length self.new ≤ length self.old + 20 }
+        ensures short { length self.new ≤ length self.old + LONGEST_COUNT }
     {
         self.start = write_digits(count, &mut self.bytes, self.start);
     }
@@ -82,9 +92,9 @@ impl ReplyLine {
     // The same for one that may be below zero.
     #[inline(always)]
     pub(crate) fn put_number(&mut self, number: i64)
-        requires { length self.old ≤ 91 }
+        requires { length self.old + LONGEST_NUMBER ≤ LONGEST_REPLY }
         ensures text { self.new ≡ signed_decimal number ++ self.old }
-        ensures short { length self.new ≤ length self.old + 21 }
+        ensures short { length self.new ≤ length self.old + LONGEST_NUMBER }
     {
         self.put_count(number.unsigned_abs());
         if number < 0 {
@@ -95,7 +105,7 @@ impl ReplyLine {
     // Puts a text before it.
     #[inline(always)]
     pub(crate) fn put_text(&mut self, text: &str)
-        requires { length text.now + length self.old ≤ 112 }
+        requires { length text.now + length self.old ≤ LONGEST_REPLY }
         ensures { self.new ≡ text.now ++ self.old }
     {
         let start = self.start - text.len();
@@ -106,10 +116,10 @@ impl ReplyLine {
     // Puts X Y before it.
     #[inline(always)]
     pub(crate) fn put_cell(&mut self, cell: Cell)
-        requires { length self.old ≤ 69 }
+        requires { length self.old + LONGEST_CELL ≤ LONGEST_REPLY }
         ensures text { self.new
             ≡ signed_decimal cell.x ++ 32 ∷ (signed_decimal cell.y ++ self.old) }
-        ensures short { length self.new ≤ length self.old + 43 }
+        ensures short { length self.new ≤ length self.old + LONGEST_CELL }
     {
         self.put_number(cell.y);
         self.put_space();
@@ -120,7 +130,7 @@ impl ReplyLine {
     #[inline(always)]
     pub(crate) fn begin_cell(&mut self, cell: Cell)
         ensures line { self.new ≡ cell_line cell }
-        ensures short { length self.new ≤ 44 }
+        ensures short { length self.new ≤ LONGEST_CELL + 1 }
     {
         self.begin();
         self.put_cell(cell);
@@ -129,7 +139,7 @@ impl ReplyLine {
     #[inline(always)]
     pub(crate) fn as_bytes(&self) -> &[u8]
         ensures bytes { result.now ≡ self.now }
-        ensures short { length result.now ≤ 112 }
+        ensures short { length result.now ≤ LONGEST_REPLY }
     {
         &self.bytes[self.start..]
     }

@@ -14,15 +14,17 @@ pub(crate) struct Room {
 
 impl Model for Room {
     ghost use Rattle.std.specs.Prelude.{◌≡◌, ◌≤◌, ℕ, List, take, length};
+    ghost use Rattle.question_shell.specs.declared.room.TheConstants.{ROOM};
 
     ghost Value = { List ℕ };
 
     ghost view = { λ room. take room.len room.bytes };
 
-    ghost invariant = { λ room. (room.len ≤ 4096) × (length room.bytes ≡ 4096) };
+    ghost invariant = { λ room. (room.len ≤ ROOM) × (length room.bytes ≡ ROOM) };
 }
 
 impl Room {
+    // A room without a byte.
     pub(crate) fn new() -> Self
         ensures { result ≡ [] }
     {
@@ -32,10 +34,10 @@ impl Room {
         }
     }
 
-    // How many more bytes fit.
+    // How many more bytes fit; a caller asks before it pushes.
     #[inline(always)]
     pub(crate) fn left(&self) -> usize
-        ensures { result + length self.now ≡ 4096 }
+        ensures { result + length self.now ≡ ROOM }
     {
         ROOM - self.len
     }
@@ -49,7 +51,7 @@ impl Room {
     // Adds more bytes.
     #[inline(always)]
     pub(crate) fn push(&mut self, more: &[u8])
-        requires { length self.old + length more.now ≤ 4096 }
+        requires { length self.old + length more.now ≤ ROOM }
         ensures { self.new ≡ self.old ++ more.now }
     {
         let end = self.len + more.len();
@@ -57,6 +59,7 @@ impl Room {
         self.len = end;
     }
 
+    // Lets go of all bytes. Their places are not written.
     pub(crate) fn clear(&mut self)
         ensures { self.new ≡ [] }
     {

@@ -1,20 +1,14 @@
-ghost use Rattle.std.specs.Prelude.{◌≡◌, ◌≢◌, ℕ, ◌+◌, ◌≤◌, Err, OnOk};
-ghost use Rattle.host_ports.specs.Faults.{Rose};
-ghost use Rattle.track_types.specs.Limits.{limit_of};
-ghost use Rattle.question_shell.specs.Session.{AnswersAll, AnswersBefore, AnswersFirst};
-ghost use Rattle.question_shell.specs.Session.{AnswersFront, AnswersWhole, NamesNoDevice};
+ghost use Rattle.question_shell.specs.RunEnds.{AnswersRun, CountsRun};
 ghost use Rattle.question_shell.specs.Session.{meaning_by, run_by};
-ghost use Rattle.question_shell.specs.declared.shell_fault.ShellFault.TheVariants as fault;
 
 use crate::desk::Desk;
 use crate::listening::{Talk, take_end, take_piece};
 use crate::shell_fault::ShellFault;
-use crate::turn_fault::TurnFault;
 use host_ports::{Sink, Source};
 use std::alloc::Global;
 use std::sync::ledger::Ledger;
 use step_count::Steps;
-use track_types::{LimitKind, MAX_QUESTIONS, Meets};
+use track_types::{MAX_QUESTIONS, Meets};
 
 /// How many bytes question input may have.
 const LONGEST_INPUT: usize = MAX_QUESTIONS as usize;
@@ -42,38 +36,10 @@ pub fn run<A: Meets, S: Source, K: Sink, L: Ledger>(
     sink: &mut K,
     steps: &mut Steps<L>,
 ) -> Result<(), ShellFault>
-    ensures ok { OnOk result (
-        AnswersAll (meaning_by A.Answerer answerer)
-        (run_by S.Source K.Sink source.old sink.old desk.old steps.old)
-        (run_by S.Source K.Sink source.new sink.new desk.new steps.new)) }
-    ensures listen { result ≡ Err fault.Listen →
-        AnswersWhole (meaning_by A.Answerer answerer)
+    ensures answers { AnswersRun (meaning_by A.Answerer answerer) result
         (run_by S.Source K.Sink source.old sink.old desk.old steps.old)
         (run_by S.Source K.Sink source.new sink.new desk.new steps.new) }
-    ensures say { result ≡ Err fault.Say →
-        AnswersFront (meaning_by A.Answerer answerer)
-        (run_by S.Source K.Sink source.old sink.old desk.old steps.old)
-        (run_by S.Source K.Sink source.new sink.new desk.new steps.new) }
-    ensures limit { (value : ℕ) → result ≡ Err (fault.Limit value) →
-        (value ≡ limit_of LimitKind.Questions + 1) ×
-        AnswersFirst (meaning_by A.Answerer answerer)
-        (run_by S.Source K.Sink source.old sink.old desk.old steps.old)
-        (run_by S.Source K.Sink source.new sink.new desk.new steps.new) }
-    ensures memory { result ≡ Err fault.Memory →
-        AnswersBefore (meaning_by A.Answerer answerer)
-        (run_by S.Source K.Sink source.old sink.old desk.old steps.old)
-        (run_by S.Source K.Sink source.new sink.new desk.new steps.new) }
-    ensures listen_cause { result ≡ Err fault.Listen →
-        Rose (S.faults source.old) (S.faults source.new) }
-    ensures say_cause { result ≡ Err fault.Say → Rose (K.faults sink.old) (K.faults sink.new) }
-    ensures listen_untouched { result ≢ Err fault.Listen →
-        S.faults source.new ≡ S.faults source.old }
-    ensures say_untouched { result ≢ Err fault.Say → K.faults sink.new ≡ K.faults sink.old }
-    ensures complete { (Rose (S.faults source.old) (S.faults source.new) → ⊥) →
-        (Rose (K.faults sink.old) (K.faults sink.new) → ⊥) → NamesNoDevice result }
-    ensures within { S.taken source.new ≤ S.taken source.old + (limit_of LimitKind.Questions + 1) }
-    ensures listen_faults { S.faults source.old ≤ S.faults source.new }
-    ensures say_faults { K.faults sink.old ≤ K.faults sink.new }
+    ensures counts { CountsRun S.Source K.Sink result source.old source.new sink.old sink.new }
 {
     let mut talk = Talk::new();
     let mut buffer = [0; PIECE];
@@ -84,15 +50,11 @@ pub fn run<A: Meets, S: Source, K: Sink, L: Ledger>(
             return Err(ShellFault::Listen);
         };
         if count == 0 {
-            return match take_end(alloc, answerer, &mut talk, desk, sink, steps) {
-                Ok(()) => Ok(()),
-                Err(TurnFault::Say) => Err(ShellFault::Say),
-                Err(TurnFault::Memory) => Err(ShellFault::Memory),
-            };
+            return Ok(take_end(alloc, answerer, &mut talk, desk, sink, steps)?);
         }
         // The byte past the longest input is taken and not answered.
         let counted = count.min(LONGEST_INPUT - taken);
-        match take_piece(
+        take_piece(
             alloc,
             answerer,
             &mut talk,
@@ -100,11 +62,8 @@ pub fn run<A: Meets, S: Source, K: Sink, L: Ledger>(
             desk,
             sink,
             steps,
-        ) {
-            Ok(()) => taken += count,
-            Err(TurnFault::Say) => return Err(ShellFault::Say),
-            Err(TurnFault::Memory) => return Err(ShellFault::Memory),
-        }
+        )?;
+        taken += count;
     }
     Err(ShellFault::Limit {
         value: taken as u64,

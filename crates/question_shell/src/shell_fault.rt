@@ -1,5 +1,6 @@
-use std::error::Error;
-use std::fmt::{self, Display, Formatter, Write};
+ghost use Rattle.std.specs.Prelude.{◌≡◌};
+
+use crate::turn_fault::TurnFault;
 
 /// Why the lines of a source were not all answered.
 #[derive(Clone, Copy, Debug, PartialEq, Eq)]
@@ -14,15 +15,15 @@ pub enum ShellFault {
     Memory,
 }
 
-impl Display for ShellFault {
-    fn fmt<W: Write>(&self, f: &mut Formatter<W>) -> fmt::Result {
-        match self {
-            ShellFault::Listen => write!(f, "listening failed"),
-            ShellFault::Say => write!(f, "saying failed"),
-            ShellFault::Limit { value } => write!(f, "limit questions passed at {value}"),
-            ShellFault::Memory => write!(f, "out of memory"),
+impl From<TurnFault> for ShellFault {
+    ghost use Rattle.question_shell.specs.RunEnds.{fault_of_turn};
+
+    ghost from_gives = { λ cause fault. fault ≡ fault_of_turn cause };
+
+    fn from(cause: TurnFault) -> Self {
+        match cause {
+            TurnFault::Say => ShellFault::Say,
+            TurnFault::Memory => ShellFault::Memory,
         }
     }
 }
-
-impl Error for ShellFault {}

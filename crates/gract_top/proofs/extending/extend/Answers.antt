@@ -1,6 +1,7 @@
 use Rattle.std.proofs.Common.{inr}
 use Rattle.std.proofs.lemmas.Result.{err_from_is_err_and}
 use Rattle.gract_top.proofs.ExtendingLemmas.{EndsExtend-opened, EndsExtend-stopped}
+use Rattle.gract_top.proofs.StoppingLemmas.{CountsFiles-after, CountsFiles-stopped}
 use Rattle.gract_top.proofs.TailOpeningLemmas.{GridsTail-loaded, OpensTailed-loaded, StopsAtTail-stopped}
 use Rattle.gract_top.proofs.extending.extend.Goals as goal
 
@@ -14,7 +15,9 @@ returns-in_err-tail-clause-ends g c =
       c.in_ok-index.ensures.ok,
       StopsAtTail-stopped _ c.in_ok-index.index c.args.tail.now c.settings_of.result _ _ _ c.settings_of.ensures.value
           c.in_err-tail.ensures.err,
-    )))
+    ))
+    (CountsFiles-after _ _ _ _ c.in_ok-index.ensures.ok.load_faults c.in_ok-index.ensures.ok.save_faults
+    (CountsFiles-stopped _ _ _ _ _ _ c.in_err-tail.ensures.err.stops)))
 
 pub returns-clause-ends : goal.returns-clause-ends
 returns-clause-ends g c =
@@ -23,5 +26,5 @@ returns-clause-ends g c =
     (OpensTailed-loaded c.args.index.now c.args.tail.now c.in_ok-index.index c.in_ok-tail.tail _ _ _ c.in_ok-index.ensures.ok
     (GridsTail-loaded c.in_ok-index.index c.args.tail.now c.in_ok-tail.tail c.settings_of.result _ _ _
     c.settings_of.ensures.value c.in_ok-tail.ensures.ok))
-    c.save_extension.ensures.ended c.save_extension.ensures.as_built
+    only.counts c.save_extension.ensures.ended c.save_extension.ensures.as_built
     c.save_extension.ensures.cost only.loads only.begins only.taken

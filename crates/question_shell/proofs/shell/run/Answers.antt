@@ -1,10 +1,11 @@
 use Rattle.std.proofs.Common.{◌≡◌, ◌+◌, ◌<◌, ◌≤◌, [], ◌++◌, length, length-append, take, drop, refl, ap}
 use Rattle.std.proofs.Common.{append-nil, arith, rules, ◌∙◌}
+use Rattle.std.proofs.lemmas.Result.{err_from_is_err_and}
 use Rattle.track_types.specs.Limits.{limit_of}
 use Rattle.track_types.specs.declared.limit.LimitKind.TheVariants.{Questions}
 use Rattle.question_shell.specs.Session.{Meaning, Run, meaning_by, run_by}
-use Rattle.question_shell.proofs.RunLemmas.{Brings, Ends, Stands, answers-all, answers-first, answers-whole, before-end}
-use Rattle.question_shell.proofs.RunLemmas.{before-piece, front-end, front-piece}
+use Rattle.question_shell.proofs.RunLemmas.{AnswersRun-answered, Brings, CountsRun-cut, Ends, Stands, answers-all}
+use Rattle.question_shell.proofs.RunLemmas.{answers-first, answers-whole, cut-end, cut-piece}
 use Rattle.question_shell.proofs.SessionLemmas.{came-more, came-nothing, heard-all, heard-nothing, moment_of, piece_heard}
 use Rattle.question_shell.proofs.shell.run.Given.{Over}
 use Rattle.question_shell.proofs.shell.run.Goals as goal
@@ -93,31 +94,31 @@ pieces-init g c =
       say_faults = refl;
     }
 
-pub returns-in_default-clause-listen : goal.returns-in_default-clause-listen
-returns-in_default-clause-listen g c is_listen =
-    answers-whole (stands g (goal.at.returns-in_default-clause-listen g c).After-listen)
+pub returns-in_default-clause-answers : goal.returns-in_default-clause-answers
+returns-in_default-clause-answers g c =
+    AnswersRun-answered _ _ _ _ (answers-whole (stands g (goal.at.returns-in_default-clause-answers g c).After-listen)
     (c.in_default.ensures.came ∙ append-nil _) c.in_default.ensures.read
-    (omega (arith, c.in_default.ensures.taken)) refl
+    (omega (arith, c.in_default.ensures.taken)) refl)
 
-pub returns-in-Ok-take_end-clause-ok : goal.returns-in-Ok-take_end-clause-ok
-returns-in-Ok-take_end-clause-ok g c =
-    let place = goal.at.returns-in-Ok-take_end-clause-ok g c in
-    answers-all (stands g place.After-listen) (ends g place.After-take_end)
-    (λ start came heard. c.in-Ok-take_end.ensures.told start came (rw c.pieces.invariant.text heard))
+pub returns-in_err-take_end-clause-answers : goal.returns-in_err-take_end-clause-answers
+returns-in_err-take_end-clause-answers g c =
+    let place = goal.at.returns-in_err-take_end-clause-answers g c in
+    let gave = err_from_is_err_and c.from_residual.result c.from_residual.ensures.1 in
+    rw (gave.1, gave.2) (cut-end (stands g place.After-listen) (ends g place.After-take_end) c.in_err-take_end.field-0.0
+    (λ start came heard. c.in_err-take_end.ensures.told start came (rw c.pieces.invariant.text heard)))
 
-pub returns-in-Err-Say-clause-say : goal.returns-in-Err-Say-clause-say
-returns-in-Err-Say-clause-say g c is_say =
-    let place = goal.at.returns-in-Err-Say-clause-say g c in
-    let arm = c.in-Err-Say in
-    front-end (stands g place.After-listen) (ends g place.After-take_end) arm.field-0
-    (λ start came heard. arm.ensures.told start came (rw c.pieces.invariant.text heard)) arm.field-0-is
+pub returns-in_err-take_end-clause-counts : goal.returns-in_err-take_end-clause-counts
+returns-in_err-take_end-clause-counts g c =
+    let gave = err_from_is_err_and c.from_residual.result c.from_residual.ensures.1 in
+    rw (gave.1, gave.2) (CountsRun-cut g.S.Source g.K.Sink _ _ _ c.pieces.sink _ c.in_err-take_end.field-0.0
+    (c.in-Ok.ensures.untouched ∙ c.pieces.invariant.listen_faults) c.pieces.invariant.say_faults
+    c.in_err-take_end.ensures.faults (search rules))
 
-pub returns-in-Err-Memory-clause-memory : goal.returns-in-Err-Memory-clause-memory
-returns-in-Err-Memory-clause-memory g c is_memory =
-    let place = goal.at.returns-in-Err-Memory-clause-memory g c in
-    let arm = c.in-Err-Memory in
-    before-end (stands g place.After-listen) (ends g place.After-take_end) arm.field-0
-    (λ start came heard. arm.ensures.told start came (rw c.pieces.invariant.text heard)) arm.field-0-is
+pub returns-then-count-eq0-clause-answers : goal.returns-then-count-eq0-clause-answers
+returns-then-count-eq0-clause-answers g c =
+    let place = goal.at.returns-then-count-eq0-clause-answers g c in
+    AnswersRun-answered _ _ _ _ (answers-all (stands g place.After-listen) (ends g place.After-take_end)
+    (λ start came heard. c.in_ok-take_end.ensures.told start came (rw c.pieces.invariant.text heard)))
 
 pub pieces-preserved : goal.pieces-preserved
 unfolding stands
@@ -134,33 +135,33 @@ pieces-preserved g c =
       count = omega (arith, read.count, length-append read.bytes piece, c.in-Ok.ensures.within.1);
       within = search rules;
       heard = rw new.front
-          (c.in-Ok-take_piece.ensures.told (moment_of (before g at)) read.bytes (rw read.text known.heard));
-      text = c.in-Ok-take_piece.ensures.said;
+          (c.in_ok-take_piece.ensures.told (moment_of (before g at)) read.bytes (rw read.text known.heard));
+      text = c.in_ok-take_piece.ensures.said;
       listen_faults = c.in-Ok.ensures.untouched ∙ read.listen_faults;
-      say_faults = c.in-Ok-take_piece.ensures.faults.untouched (λ same. absurd (cc)) ∙ read.say_faults;
+      say_faults = c.in_ok-take_piece.ensures.faults.untouched (λ same. absurd (cc)) ∙ read.say_faults;
     }
 
-pub returns-in-Err-Say-take_piece-clause-say : goal.returns-in-Err-Say-take_piece-clause-say
+pub returns-in_err-take_piece-clause-answers : goal.returns-in_err-take_piece-clause-answers
 unfolding stands
-returns-in-Err-Say-take_piece-clause-say g c is_say =
-    let place = goal.at.returns-in-Err-Say-take_piece-clause-say g c in
-    let arm = c.in-Err-Say-take_piece in
-    front-piece (stands g place.After-listen) (brings g place.After-take_piece) c.take_piece.new.talk.line arm.field-0
-    (λ start came heard. arm.ensures.told start came (rw c.pieces.invariant.text heard)) arm.field-0-is
+returns-in_err-take_piece-clause-answers g c =
+    let place = goal.at.returns-in_err-take_piece-clause-answers g c in
+    let gave = err_from_is_err_and c.from_residual-in_err-take_piece.result c.from_residual-in_err-take_piece.ensures.1 in
+    rw (gave.1, gave.2) (cut-piece (stands g place.After-listen) (brings g place.After-take_piece) c.take_piece.new.talk.line
+    c.in_err-take_piece.field-0.0
+    (λ start came heard. c.in_err-take_piece.ensures.told start came (rw c.pieces.invariant.text heard)))
 
-pub returns-in-Err-Memory-take_piece-clause-memory : goal.returns-in-Err-Memory-take_piece-clause-memory
-unfolding stands
-returns-in-Err-Memory-take_piece-clause-memory g c is_memory =
-    let place = goal.at.returns-in-Err-Memory-take_piece-clause-memory g c in
-    let arm = c.in-Err-Memory-take_piece in
-    before-piece (stands g place.After-listen) (brings g place.After-take_piece) c.take_piece.new.talk.line arm.field-0
-    (λ start came heard. arm.ensures.told start came (rw c.pieces.invariant.text heard)) arm.field-0-is
+pub returns-in_err-take_piece-clause-counts : goal.returns-in_err-take_piece-clause-counts
+returns-in_err-take_piece-clause-counts g c =
+    let gave = err_from_is_err_and c.from_residual-in_err-take_piece.result c.from_residual-in_err-take_piece.ensures.1 in
+    rw (gave.1, gave.2) (CountsRun-cut g.S.Source g.K.Sink _ _ _ c.pieces.sink _ c.in_err-take_piece.field-0.0
+    (c.in-Ok.ensures.untouched ∙ c.pieces.invariant.listen_faults) c.pieces.invariant.say_faults
+    c.in_err-take_piece.ensures.faults (search rules))
 
-pub returns-clause-limit : goal.returns-clause-limit
-returns-clause-limit g c value is_limit =
+pub returns-clause-answers : goal.returns-clause-answers
+returns-clause-answers g c =
     let read = c.pieces.invariant in
     let meaning = meaning_by g.A.Answerer c.args.answerer in
     let past : length read.bytes ≡ limit_of Questions + 1 =
     omega (arith, read.count, read.within, c.pieces-test.false) in
-    let same : c.pieces.taken ≡ value = grind (arith, is_limit) in
-    (omega (arith, same, read.count, past), answers-first meaning _ _ read.bytes c.pieces.talk.line read.came past read.heard)
+    AnswersRun-answered meaning _ _ _
+    (omega (arith, read.count, past), answers-first meaning _ _ read.bytes c.pieces.talk.line read.came past read.heard)
