@@ -1,10 +1,11 @@
-ghost use Rattle.std.specs.Prelude.{◌≡◌, ◌<◌, IfOk, [], ◌∷◌, length};
+ghost use Rattle.std.specs.Prelude.{◌≡◌, ◌<◌, false, IfOk, [], ◌∷◌, length};
+ghost use Rattle.step_count.specs.Reads.{ReadsWithin};
 
 use std::alloc::{AllocError, Global};
 use std::marker::Brand;
-use std::sync::ledger::{Blank, Ledger};
+use std::sync::ledger::Blank;
 use std::test::Fail;
-use step_count::Steps;
+use step_count::{Reads, Steps};
 use track_types::{Lazy, drawn};
 
 // The numbers of a list from a place on, with one read for each.
@@ -20,7 +21,9 @@ impl<'a> Lazy for Numbers<'a> {
 
     ghost budget = { λ s. length s.rest.now };
 
-    fn draw<L: Ledger>(&mut self, steps: &mut Steps<L>) -> Option<u32> {
+    ghost needs = { λ _ _. false };
+
+    fn draw<L: Reads>(&mut self, steps: &mut Steps<L>) -> Option<u32> {
         let (first, rest) = self.rest.split_first()?;
         steps.tick();
         self.rest = rest;
@@ -29,20 +32,21 @@ impl<'a> Lazy for Numbers<'a> {
 }
 
 // The items of any walk, in order.
-fn all_drawn<W: Lazy, L: Ledger>(
+fn all_drawn<W: Lazy, L: Reads>(
     alloc: Global,
     walk: &mut W,
     steps: &mut Steps<L>,
 ) -> Result<Vec<W::Item>, AllocError>
 where
     W::Item: Drop,
+    requires may { ReadsWithin (W.needs walk.old) L.may }
     ensures { IfOk result (λ items. items.items ≡ W.left walk.old) }
 {
     drawn(walk, steps).collect(alloc)
 }
 
 // All but the first of these numbers, and what comes after the last.
-fn numbers_drawn<L: Ledger>(
+fn numbers_drawn<L: Reads>(
     rt: &HostRuntime,
     blank: Blank,
 ) -> Result<(Vec<u32>, Option<u32>), AllocError>

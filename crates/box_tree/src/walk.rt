@@ -16,7 +16,7 @@ use crate::node_walk::NodeWalk;
 use crate::search::Search;
 use crate::tree::BoxTree;
 use std::sync::ledger::Ledger;
-use step_count::Steps;
+use step_count::{Reads, Steps};
 use track_types::Lazy;
 
 /// The places of a tree whose cell and whose box meet what is asked, in order. An item is the
@@ -108,7 +108,10 @@ impl<'a, S: Search> Lazy for BoxWalk<'a, S> {
 
     ghost budget = { box_budget S.squares S.boxes };
 
-    fn draw<L: Ledger>(&mut self, steps: &mut Steps<L>) -> Option<u32>
+    // The reads of a tree have no names.
+    ghost needs = { λ _ _. false };
+
+    fn draw<L: Reads>(&mut self, steps: &mut Steps<L>) -> Option<u32>
         ensures found { box_left S.squares S.boxes self.old
             ≡ option_to_list result ++ box_left S.squares S.boxes self.new }
         ensures none { IfNone result (box_left S.squares S.boxes self.old ≡ []) }

@@ -1,16 +1,17 @@
 ghost use Rattle.std.specs.Prelude.{◌≡◌, ◌+◌, ◌≤◌, IfOk, IfSome};
+ghost use Rattle.step_count.specs.Reads.{ReadsWithin};
 ghost use Rattle.track_types.specs.Meeting.{meeting_of};
 ghost use Rattle.track_types.specs.Near.{IsAsked};
 ghost use Rattle.track_types.specs.declared.limit.TheConstants.{MAX_REACH};
 ghost use Rattle.track_types.specs.declared.meeting.Meeting.{Meeting as MeetingView};
+ghost use Rattle.snapshots.specs.Needs.{needs_between};
 ghost use Rattle.snapshots.specs.Parts.{chart_in};
 ghost use Rattle.encounter.specs.MeetCost.{meet_cost, meet_cost_until};
 
 use crate::search::meet;
 use crate::window::Window;
 use std::alloc::Global;
-use std::sync::ledger::Ledger;
-use step_count::Steps;
+use step_count::{Reads, Steps};
 use track_index::{Index, IndexRef, PathWalk};
 use track_types::{Answerer, Cell, Facts, Hit, Meeting, Meets, Memory, Near, Region, Sighting};
 
@@ -35,6 +36,7 @@ impl<'a> Answerer for IndexMeets<'a> {
     ghost use Rattle.snapshots.specs.Parts.{chart_in};
     ghost use Rattle.track_index.specs.Cost.{path_cost_until};
     ghost use Rattle.track_index.specs.Facts.{facts_of};
+    ghost use Rattle.track_index.specs.Needs.{needs_of};
 
     type Walk = PathWalk<'a>;
 
@@ -44,13 +46,15 @@ impl<'a> Answerer for IndexMeets<'a> {
 
     ghost cost = { λ m. meets_cost m.view.index.now };
 
+    ghost needs = { λ m. needs_of m.view.index.now };
+
     ghost path_cost_until = { λ m. path_cost_until m.view.index.now };
 
     fn facts(self) -> Facts {
         self.view.facts()
     }
 
-    fn position<L: Ledger>(self, object: u32, instant: i64, steps: &mut Steps<L>) -> Option<Cell> {
+    fn position<L: Reads>(self, object: u32, instant: i64, steps: &mut Steps<L>) -> Option<Cell> {
         self.view.position(object, instant, steps)
     }
 
@@ -58,7 +62,7 @@ impl<'a> Answerer for IndexMeets<'a> {
         self.view.walk(alloc, object, from, to)
     }
 
-    fn slice<L: Ledger>(
+    fn slice<L: Reads>(
         self,
         alloc: Global,
         instant: i64,
@@ -68,7 +72,7 @@ impl<'a> Answerer for IndexMeets<'a> {
         self.view.slice(alloc, instant, region, steps)
     }
 
-    fn interval<L: Ledger>(
+    fn interval<L: Reads>(
         self,
         alloc: Global,
         from: i64,
@@ -79,7 +83,7 @@ impl<'a> Answerer for IndexMeets<'a> {
         self.view.interval(alloc, from, to, region, steps)
     }
 
-    fn nearest<L: Ledger>(
+    fn nearest<L: Reads>(
         self,
         alloc: Global,
         count: u32,
@@ -92,7 +96,7 @@ impl<'a> Answerer for IndexMeets<'a> {
 }
 
 impl<'a> Meets for IndexMeets<'a> {
-    fn meet<L: Ledger>(
+    fn meet<L: Reads>(
         self,
         alloc: Global,
         left: u32,
@@ -105,6 +109,7 @@ impl<'a> Meets for IndexMeets<'a> {
         requires from { IsAsked from }
         requires to { IsAsked to }
         requires reach { reach ≤ MAX_REACH }
+        requires may { ReadsWithin (needs_between self.view.index.now.frame from to) L.may }
         ensures ok { IfOk result (λ found. found
             ≡ meeting_of (chart_in self.entry.view.index.now).rows left right from to reach) }
         ensures cost { steps.new ≤ steps.old + meet_cost self.entry.view.index.now left right from to reach }

@@ -1,4 +1,5 @@
 ghost use Rattle.std.specs.Prelude.{◌≡◌, ◌+◌, ◌≤◌, option_map, true, false};
+ghost use Rattle.step_count.specs.Reads.{is_of_log, ReadsWithin};
 ghost use Rattle.track_types.specs.Meeting.{meeting_at};
 ghost use Rattle.track_types.specs.declared.limit.TheConstants.{MAX_REACH};
 ghost use Rattle.encounter.specs.Turn.{IsTurned, meeting_ahead, sides, reads_ahead};
@@ -6,8 +7,7 @@ ghost use Rattle.encounter.specs.Turn.{IsTurned, meeting_ahead, sides, reads_ahe
 use crate::block_node::BlockNode;
 use crate::side::Side;
 use crate::window::Window;
-use std::sync::ledger::Ledger;
-use step_count::Steps;
+use step_count::{Reads, Steps};
 use track_types::Meeting;
 
 /// What a turn came to: a node was passed or opened, there is no meeting, or this is the first.
@@ -20,13 +20,14 @@ pub enum Turn {
 
 /// The first meeting of two blocks. It reads the symbols of both logs, and rules that are close to a
 /// node of the other block.
-pub fn first_meeting<L: Ledger>(
+pub fn first_meeting<L: Reads>(
     left: &mut Side<'_>,
     right: &mut Side<'_>,
     window: &Window,
     steps: &mut Steps<L>,
 ) -> Option<Meeting>
-    requires { window.now.reach ≤ MAX_REACH }
+    requires reach { window.now.reach ≤ MAX_REACH }
+    requires may { ReadsWithin is_of_log L.may }
     ensures value { result ≡ option_map meeting_at (meeting_ahead
         window.now.from window.now.to window.now.reach left.old right.old) }
     ensures cost { steps.new ≤ steps.old + reads_ahead
@@ -43,13 +44,14 @@ pub fn first_meeting<L: Ledger>(
 
 // Where the next nodes cannot meet, the one that ends first is passed, and at a tie the left. Else a
 // rule among them is opened; two stops are a meeting.
-fn take_turn<L: Ledger>(
+fn take_turn<L: Reads>(
     left: &mut Side<'_>,
     right: &mut Side<'_>,
     window: &Window,
     steps: &mut Steps<L>,
 ) -> Turn
-    requires { window.now.reach ≤ MAX_REACH }
+    requires reach { window.now.reach ≤ MAX_REACH }
+    requires may { ReadsWithin is_of_log L.may }
     ensures { IsTurned window.now.from window.now.to window.now.reach
         (sides left.old right.old steps.old) (sides left.new right.new steps.new) result }
 {

@@ -1,9 +1,12 @@
-ghost use Rattle.std.specs.Prelude.{◌≡◌, ◌+◌, ◌<◌, ◌≤◌, length, option_map, IfOk, IfSome};
+ghost use Rattle.std.specs.Prelude.{◌≡◌, ◌+◌, ◌<◌, ◌≤◌, length, option_map, IfOk, IfSome, IsTrue};
+ghost use Rattle.step_count.specs.Reads.{is_of_log, ofPeriod, ReadsWithin};
 ghost use Rattle.track_types.specs.Frame.{periods_of};
 ghost use Rattle.track_types.specs.Meeting.{meeting_at, meeting_of};
 ghost use Rattle.track_types.specs.declared.limit.TheConstants.{MAX_REACH};
 ghost use Rattle.track_types.specs.declared.meeting.Meeting.{Meeting as MeetingView};
+ghost use Rattle.snapshots.specs.Needs.{needs_between};
 ghost use Rattle.snapshots.specs.Parts.{chart_in, stops_in};
+ghost use Rattle.track_index.specs.Path.{left_needs};
 ghost use Rattle.encounter.specs.MeetCost.{meet_cost, meet_cost_until, period_meet_cost};
 ghost use Rattle.encounter.specs.Seeking.{EndsAt, meet_cost_between, meeting_between};
 ghost use Rattle.encounter.specs.Window.{meeting_among};
@@ -14,8 +17,7 @@ use crate::window::Window;
 use object_track::{Periods, Placed};
 use snapshots::Stores;
 use std::alloc::Global;
-use std::sync::ledger::Ledger;
-use step_count::Steps;
+use step_count::{Reads, Steps};
 use track_types::{Meeting, Memory};
 
 /// The first instant of a window, whose ends count, at which two objects have a row within its
@@ -25,7 +27,7 @@ use track_types::{Meeting, Memory};
 /// The distance is at most `MAX_REACH`. Both blocks of each period that the window meets are gone
 /// through together, up to the meeting. `Memory` is the only refusal: memory is taken where the
 /// grammar is deep, for the parts of rules.
-pub fn meet<L: Ledger>(
+pub fn meet<L: Reads>(
     alloc: Global,
     stores: &Stores,
     left: u32,
@@ -33,7 +35,8 @@ pub fn meet<L: Ledger>(
     window: &Window,
     steps: &mut Steps<L>,
 ) -> Result<Option<Meeting>, Memory>
-    requires { window.now.reach ≤ MAX_REACH }
+    requires reach { window.now.reach ≤ MAX_REACH }
+    requires may { ReadsWithin (needs_between stores.now.frame window.now.from window.now.to) L.may }
     ensures ok { IfOk result (λ found. found ≡ meeting_of (chart_in stores.now).rows left right
         window.now.from window.now.to window.now.reach) }
     ensures cost { steps.new ≤ steps.old + meet_cost stores.now left right
@@ -65,7 +68,7 @@ struct Places {
 }
 
 // The first meeting in some periods.
-fn meet_in_periods<L: Ledger>(
+fn meet_in_periods<L: Reads>(
     alloc: Global,
     stores: &Stores,
     places: Places,
@@ -77,6 +80,7 @@ fn meet_in_periods<L: Ledger>(
     requires left { places.left < length stores.now.objects }
     requires right { places.right < length stores.now.objects }
     requires periods { periods.end ≤ periods_of stores.now.frame }
+    requires may { ReadsWithin (left_needs periods.next periods.end) L.may }
     ensures ok { IfOk result (λ found. found ≡ option_map meeting_at (meeting_between stores.now
         places.left places.right window.now.from window.now.to window.now.reach
         periods.next periods.end)) }
@@ -98,7 +102,7 @@ fn meet_in_periods<L: Ledger>(
 }
 
 // The first meeting in one period: both blocks are looked for, and gone through together.
-fn meet_in_period<L: Ledger>(
+fn meet_in_period<L: Reads>(
     alloc: Global,
     stores: &Stores,
     places: Places,
@@ -110,6 +114,8 @@ fn meet_in_period<L: Ledger>(
     requires left { places.left < length stores.now.objects }
     requires right { places.right < length stores.now.objects }
     requires period { period < periods_of stores.now.frame }
+    requires may { IsTrue (L.may (ofPeriod period)) }
+    requires logs { ReadsWithin is_of_log L.may }
     ensures ok { IfOk result (λ found. found ≡ option_map meeting_at (meeting_among
         window.now.from window.now.to window.now.reach
         (stops_in stores.now places.left period) (stops_in stores.now places.right period))) }

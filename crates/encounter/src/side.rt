@@ -1,4 +1,5 @@
 ghost use Rattle.std.specs.Prelude.{◌≡◌, ◌+◌, ◌≤◌, [], ◌∷◌, length, true, false, IfOk, IfSome, option_map};
+ghost use Rattle.step_count.specs.Reads.{is_of_log, ReadsWithin};
 ghost use Rattle.track_types.specs.Near.{IsBoxWithin, IsCellAsked};
 ghost use Rattle.rule_store.specs.Cost.{parts_reads};
 ghost use Rattle.rule_store.specs.Log.{log_of};
@@ -12,8 +13,7 @@ use log_cursor::{Pending, Start, placed};
 use rule_store::{Entry, LogView};
 use std::alloc::Global;
 use std::marker::Model;
-use std::sync::ledger::Ledger;
-use step_count::Steps;
+use step_count::{Reads, Steps};
 use track_types::{Cell, CellBox, Memory};
 
 /// One of two blocks that are gone through together: its next node, and what comes after it.
@@ -91,7 +91,8 @@ impl<'a> Side<'a> {
 
     /// Goes to the node after the next one, and answers whether there is one. A symbol of the log is
     /// read.
-    pub fn pass<L: Ledger>(&mut self, steps: &mut Steps<L>) -> bool
+    pub fn pass<L: Reads>(&mut self, steps: &mut Steps<L>) -> bool
+        requires may { ReadsWithin is_of_log L.may }
         ensures more { result ≡ true → IsPassed self.old self.new }
         ensures end { result ≡ false → self.old.later.stops ≡ [] }
         ensures cost { steps.new + self.new.unread ≤ steps.old + self.old.unread }
@@ -108,8 +109,9 @@ impl<'a> Side<'a> {
     }
 
     /// Opens the next node, which is a rule, by one read.
-    pub fn open<L: Ledger>(&mut self, steps: &mut Steps<L>)
-        requires { self.old.opens ≡ true }
+    pub fn open<L: Reads>(&mut self, steps: &mut Steps<L>)
+        requires rule { self.old.opens ≡ true }
+        requires may { ReadsWithin is_of_log L.may }
         ensures opened { OpensNode self.old self.new }
         ensures cost { steps.new + self.new.unread ≤ steps.old + parts_reads + self.old.unread }
     {

@@ -1,18 +1,18 @@
 ghost use Rattle.std.specs.Prelude.{◌≡◌, ◌+◌, ◌*◌, ◌≤◌, option_map, IfSome};
+ghost use Rattle.step_count.specs.Reads.{ReadsWithin};
 ghost use Rattle.track_types.specs.Near.{IsCellWithin};
 ghost use Rattle.track_types.specs.Meeting.{are_together, first_together, meeting_at};
 ghost use Rattle.track_types.specs.declared.limit.TheConstants.{MAX_REACH};
 ghost use Rattle.track_types.specs.declared.meeting.Meeting.{Meeting as MeetingView};
 ghost use Rattle.encounter.specs.Walked.{AreAfter, IsTrack};
 
-use std::sync::ledger::Ledger;
-use step_count::Steps;
+use step_count::{Reads, Steps};
 use track_types::{Meeting, Stop, StopWalk, dist2};
 
 /// The first meeting of two walks, each over the stops of one object. The walk that is at the
 /// earlier instant is drawn from, until both are at one instant within the distance. No stop after
 /// that instant is drawn, and no more is read than until both walks give one there.
-pub fn first_of_walks<W: StopWalk, L: Ledger>(
+pub fn first_of_walks<W: StopWalk, L: Reads>(
     one: &mut W,
     other: &mut W,
     reach: u64,
@@ -21,6 +21,8 @@ pub fn first_of_walks<W: StopWalk, L: Ledger>(
     requires reach { reach ≤ MAX_REACH }
     requires one { IsTrack (W.left one.old) }
     requires other { IsTrack (W.left other.old) }
+    requires may { ReadsWithin (W.needs one.old) L.may }
+    requires also { ReadsWithin (W.needs other.old) L.may }
     ensures value { result
         ≡ option_map meeting_at (first_together reach (W.left one.old) (W.left other.old)) }
     ensures ended { IfSome result (λ (meeting : MeetingView).

@@ -1,4 +1,5 @@
 ghost use Rattle.std.specs.Prelude.{◌≡◌, ◌+◌, ◌≤◌, IfOk, IfSome};
+ghost use Rattle.step_count.specs.Reads.{ReadsWithin};
 ghost use Rattle.track_types.specs.ByFilter.{path_of};
 ghost use Rattle.track_types.specs.Meeting.{meeting_of};
 ghost use Rattle.track_types.specs.Near.{IsAsked};
@@ -9,8 +10,7 @@ ghost use Rattle.encounter.specs.Walked.{EndAt};
 
 use crate::side_by_side::first_of_walks;
 use std::alloc::Global;
-use std::sync::ledger::Ledger;
-use step_count::Steps;
+use step_count::{Reads, Steps};
 use track_types::{Answerer, Cell, Facts, Hit, Meeting, Meets, Memory, Near, Region, Sighting};
 
 /// Any answerer, made to tell meetings too, by two paths that are drawn side by side. Its chart,
@@ -30,7 +30,7 @@ impl<A: Answerer> Walked<A> {
 }
 
 impl<A: Answerer> Answerer for Walked<A> {
-    ghost use Rattle.encounter.specs.WalkedCost.{walked_cost};
+    ghost use Rattle.encounter.specs.WalkedCost.{walked_cost, walked_needs};
 
     type Walk = A::Walk;
 
@@ -40,13 +40,15 @@ impl<A: Answerer> Answerer for Walked<A> {
 
     ghost cost = { λ w. walked_cost (A.cost w.answerer) };
 
+    ghost needs = { λ w. walked_needs (A.needs w.answerer) };
+
     ghost path_cost_until = { λ w. A.path_cost_until w.answerer };
 
     fn facts(self) -> Facts {
         self.answerer.facts()
     }
 
-    fn position<L: Ledger>(self, object: u32, instant: i64, steps: &mut Steps<L>) -> Option<Cell> {
+    fn position<L: Reads>(self, object: u32, instant: i64, steps: &mut Steps<L>) -> Option<Cell> {
         self.answerer.position(object, instant, steps)
     }
 
@@ -54,7 +56,7 @@ impl<A: Answerer> Answerer for Walked<A> {
         self.answerer.walk(alloc, object, from, to)
     }
 
-    fn slice<L: Ledger>(
+    fn slice<L: Reads>(
         self,
         alloc: Global,
         instant: i64,
@@ -64,7 +66,7 @@ impl<A: Answerer> Answerer for Walked<A> {
         self.answerer.slice(alloc, instant, region, steps)
     }
 
-    fn interval<L: Ledger>(
+    fn interval<L: Reads>(
         self,
         alloc: Global,
         from: i64,
@@ -75,7 +77,7 @@ impl<A: Answerer> Answerer for Walked<A> {
         self.answerer.interval(alloc, from, to, region, steps)
     }
 
-    fn nearest<L: Ledger>(
+    fn nearest<L: Reads>(
         self,
         alloc: Global,
         count: u32,
@@ -88,7 +90,7 @@ impl<A: Answerer> Answerer for Walked<A> {
 }
 
 impl<A: Answerer> Meets for Walked<A> {
-    fn meet<L: Ledger>(
+    fn meet<L: Reads>(
         self,
         alloc: Global,
         left: u32,
@@ -101,6 +103,8 @@ impl<A: Answerer> Meets for Walked<A> {
         requires from { IsAsked from }
         requires to { IsAsked to }
         requires reach { reach ≤ MAX_REACH }
+        requires may { ReadsWithin (A.needs self.answerer (asked.Path left from to)) L.may }
+        requires also { ReadsWithin (A.needs self.answerer (asked.Path right from to)) L.may }
         ensures ok { IfOk result (λ found. found
             ≡ meeting_of (A.chart self.answerer).rows left right from to reach) }
         ensures cost { steps.new ≤ steps.old + (A.cost self.answerer (asked.Path left from to)

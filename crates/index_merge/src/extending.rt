@@ -1,4 +1,5 @@
 ghost use Rattle.std.specs.Prelude.{◌≡◌, ◌+◌, ◌≤◌, None, IfErr, IfOk, OnOk};
+ghost use Rattle.step_count.specs.Reads.{AllMay};
 ghost use Rattle.gridding.specs.GridLimit.{IsGridFaultFor};
 ghost use Rattle.index_merge.specs.Extension.{IsAsBuilt, extension_cost, extension_fault, extension_of};
 ghost use Rattle.path_union.specs.Paths.{AreTimely};
@@ -9,8 +10,7 @@ use crate::index_paths::IndexPaths;
 use gridding::GridFault;
 use path_union::{RowsPaths, chart_of_both};
 use std::alloc::Global;
-use std::sync::ledger::Ledger;
-use step_count::Steps;
+use step_count::{Reads, Steps};
 use track_index::Index;
 use track_types::{Chart, Row};
 
@@ -27,12 +27,13 @@ use track_types::{Chart, Row};
 /// index that stands for billions of rows is refused without being expanded. Memory is taken for the
 /// rows of the chart, and for the walk of one path.
 #[tactic(auto, using(crate::proofs::AsBuiltLemmas::is_as_built))]
-pub fn extended<L: Ledger>(
+pub fn extended<L: Reads>(
     alloc: Global,
     index: &Index,
     later: Option<Chart>,
     steps: &mut Steps<L>,
 ) -> Result<Chart, GridFault>
+    requires may { AllMay L.may }
     ensures ok { IfOk result (λ chart. chart ≡ extension_of (chart_in index.now) (rows_of_tail later)) }
     ensures exact { OnOk result (extension_fault index.now (rows_of_tail later) ≡ None) }
     ensures fault { IfErr result (IsGridFaultFor (extension_fault index.now (rows_of_tail later))) }

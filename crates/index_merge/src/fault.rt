@@ -3,8 +3,6 @@ ghost use Rattle.index_merge.specs.declared.fault.MergeFault.TheVariants.{Memory
 
 use gridding::GridFault;
 use std::alloc::{AllocError, AllocFailed};
-use std::error::Error;
-use std::fmt::{self, Display, Formatter, Write};
 use track_types::{LimitKind, Memory, Setting};
 
 /// Why two indexes have no union.
@@ -71,27 +69,3 @@ impl From<GridFault> for MergeFault {
         }
     }
 }
-
-impl Display for MergeFault {
-    fn fmt<W: Write>(&self, f: &mut Formatter<W>) -> fmt::Result {
-        match *self {
-            MergeFault::Settings {
-                setting,
-                left,
-                right,
-            } => write!(
-                f,
-                "the indexes differ in {}: {left} and {right}",
-                setting.name()
-            ),
-            MergeFault::Common { object } => write!(f, "object {object} is in both indexes"),
-            MergeFault::Limit { kind, value } => {
-                write!(f, "limit {} passed at {value}", kind.name())
-            }
-            MergeFault::Empty => f.write_str("no rows"),
-            MergeFault::Memory => f.write_str("out of memory"),
-        }
-    }
-}
-
-impl Error for MergeFault {}

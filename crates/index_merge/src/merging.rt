@@ -1,4 +1,5 @@
 ghost use Rattle.std.specs.Prelude.{◌≡◌, ◌+◌, ◌≤◌, None, IfErr, IfOk, OnOk};
+ghost use Rattle.step_count.specs.Reads.{AllMay};
 ghost use Rattle.index_merge.specs.Cost.{union_cost};
 ghost use Rattle.index_merge.specs.Extension.{IsAsBuilt};
 ghost use Rattle.index_merge.specs.MergeFault.{merge_fault, IsMergeFaultFor};
@@ -10,8 +11,7 @@ use crate::fault::MergeFault;
 use crate::index_paths::IndexPaths;
 use path_union::chart_of_both;
 use std::alloc::Global;
-use std::sync::ledger::Ledger;
-use step_count::Steps;
+use step_count::{Reads, Steps};
 use track_index::Index;
 use track_types::Chart;
 
@@ -30,12 +30,13 @@ use track_types::Chart;
 /// index that stands for billions of rows is refused without being expanded. Memory is taken for the
 /// rows of the chart, and for the walk of one path.
 #[tactic(auto, using(crate::proofs::AsBuiltLemmas::is_as_built))]
-pub fn union<L: Ledger>(
+pub fn union<L: Reads>(
     alloc: Global,
     left: &Index,
     right: &Index,
     steps: &mut Steps<L>,
 ) -> Result<Chart, MergeFault>
+    requires may { AllMay L.may }
     ensures ok { IfOk result (λ chart. chart ≡ union_of (chart_in left.now) (chart_in right.now)) }
     ensures exact { OnOk result (merge_fault left.now right.now ≡ None) }
     ensures fault { IfErr result (IsMergeFaultFor (merge_fault left.now right.now)) }

@@ -1,15 +1,16 @@
 ghost use Rattle.std.specs.Prelude.{◌≡◌, ◌<◌};
+ghost use Rattle.step_count.specs.Reads.{AllMay};
 
 use crate::charts::{Place, chart_of};
 use std::marker::Brand;
-use std::sync::ledger::{Blank, Ledger};
+use std::sync::ledger::Blank;
 use std::test::Fail;
-use step_count::Steps;
+use step_count::{Reads, Steps};
 use track_index::{Index, IndexRef};
 use track_types::{Answerer, Cell, Chart, Memory};
 
 // The cell of object 7 at instant 2, asked of the index of a chart, which was taken apart before.
-fn cell_of_remade<L: Ledger>(
+fn cell_of_remade<L: Reads>(
     rt: &HostRuntime,
     chart: &Chart,
     blank: Blank,
@@ -17,6 +18,7 @@ fn cell_of_remade<L: Ledger>(
     requires name { blank.name ≡ L.name }
     requires parts { blank.parts ≡ L.parts }
     requires some { 0 < L.parts }
+    requires may { AllMay L.may }
 {
     let mut steps = Steps::<L>::new(rt, blank);
     let index = Index::build(rt.alloc(), chart, &mut steps)?;

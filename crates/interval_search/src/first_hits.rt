@@ -1,4 +1,5 @@
 ghost use Rattle.std.specs.Prelude.{◌≡◌, ◌+◌, ◌++◌, ◌<◌, ◌≤◌, [], false, length, option_map};
+ghost use Rattle.step_count.specs.Reads.{is_of_log, ReadsWithin};
 ghost use Rattle.std.specs.Prelude.{replicate, slice_index, All, IfOk, OnOk};
 ghost use Rattle.std.specs.List.{sum_by};
 ghost use Rattle.std.specs.List.Sorted.{IsNonDecreasingBy, IsPermutation};
@@ -11,8 +12,7 @@ ghost use Rattle.interval_search.specs.FirstHits.{hit_at, is_known, known_after,
 use slice_search::Sought;
 use snapshots::Anchored;
 use std::alloc::Global;
-use std::sync::ledger::Ledger;
-use step_count::Steps;
+use step_count::{Reads, Steps};
 use track_types::{Hit, Lazy, Memory};
 
 /// The first hits that a search has found, and which objects have one.
@@ -39,7 +39,7 @@ impl FirstHits {
 
     /// Takes the first hits that the blocks of a walk have. It skips the objects that are known: they
     /// have an earlier hit, and their logs are not opened.
-    pub fn look<W: Lazy<Item = Anchored>, L: Ledger>(
+    pub fn look<W: Lazy<Item = Anchored>, L: Reads>(
         &mut self,
         alloc: Global,
         sought: &Sought,
@@ -50,6 +50,8 @@ impl FirstHits {
             sought.now.test.now.region sought.now.period self.old.known.items self.old.found.items }
         requires blocks { AreSought sought.now.stores.now sought.now.period sought.now.from
             sought.now.to sought.now.test.now.region (W.left blocks.old) }
+        requires may { ReadsWithin (W.needs blocks.old) L.may }
+        requires logs { ReadsWithin is_of_log L.may }
         ensures first { OnOk result (AreFirst sought.now.stores.now sought.now.from sought.now.to
             sought.now.test.now.region (sought.now.period + 1) self.new.known.items
             self.new.found.items) }
@@ -67,7 +69,7 @@ impl FirstHits {
     }
 
     // Takes the first hit that a block has, if any, of an object that is not known.
-    fn look_into<L: Ledger>(
+    fn look_into<L: Reads>(
         &mut self,
         alloc: Global,
         sought: &Sought,
@@ -76,6 +78,7 @@ impl FirstHits {
     ) -> Result<(), Memory>
         requires block { IsBlock (snapshot_in sought.now.stores.now sought.now.period) block.now }
         requires known { block.now.index < length self.old.known.items }
+        requires may { ReadsWithin is_of_log L.may }
         ensures known { OnOk result (self.new.known.items ≡ known_after (first_stop_in
             sought.now.stores.now sought.now.period sought.now.from sought.now.to
             sought.now.test.now.region block.now) block.now.index self.old.known.items) }

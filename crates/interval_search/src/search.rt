@@ -1,7 +1,9 @@
 ghost use Rattle.std.specs.Prelude.{◌≡◌, ◌+◌, ◌≤◌, IfOk};
+ghost use Rattle.step_count.specs.Reads.{ReadsWithin};
 ghost use Rattle.track_types.specs.ByFilter.{hits_of};
 ghost use Rattle.track_types.specs.Near.{IsAsked};
 ghost use Rattle.track_types.specs.Region.{IsRegionAsked};
+ghost use Rattle.snapshots.specs.Needs.{needs_between};
 ghost use Rattle.snapshots.specs.Parts.{chart_in};
 ghost use Rattle.interval_search.specs.Cost.{interval_cost};
 
@@ -11,8 +13,7 @@ use region_test::RegionTest;
 use slice_search::{Sought, meets_grid};
 use snapshots::Stores;
 use std::alloc::Global;
-use std::sync::ledger::Ledger;
-use step_count::Steps;
+use step_count::{Reads, Steps};
 use track_types::{Hit, Memory};
 
 /// For each object that is in the test's region at some instant of a window, whose ends count, the
@@ -21,7 +22,7 @@ use track_types::{Hit, Memory};
 /// The instants and the region's coordinates are at most 2^41 away from 0, and its radius is at most
 /// 2^42. `Memory` is the only refusal: memory is taken for the answer and for a bool for each object.
 /// Where the region has no cell of the grid, no period is gone through.
-pub fn interval<L: Ledger>(
+pub fn interval<L: Reads>(
     alloc: Global,
     stores: &Stores,
     from: i64,
@@ -32,6 +33,7 @@ pub fn interval<L: Ledger>(
     requires from { IsAsked from }
     requires to { IsAsked to }
     requires region { IsRegionAsked test.now.region }
+    requires may { ReadsWithin (needs_between stores.now.frame from to) L.may }
     ensures ok { IfOk result (λ found.
         found.items ≡ hits_of (chart_in stores.now).rows from to test.now.region) }
     ensures cost { steps.new ≤ steps.old + interval_cost stores.now from to test.now.region }

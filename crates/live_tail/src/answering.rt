@@ -1,8 +1,10 @@
 ghost use Rattle.std.specs.Prelude.{◌≡◌, ◌+◌, ◌≤◌, IfSome};
+ghost use Rattle.step_count.specs.Reads.{ReadsWithin};
 ghost use Rattle.track_types.specs.ByFilter.{cell_at};
 ghost use Rattle.track_types.specs.Near.{IsAsked};
 ghost use Rattle.track_types.specs.declared.question.Question.TheVariants as asked;
 ghost use Rattle.snapshots.specs.Parts.{chart_in};
+ghost use Rattle.track_index.specs.Needs.{needs_of};
 ghost use Rattle.live_tail.specs.Cost.{cost_with};
 ghost use Rattle.live_tail.specs.Join.{joint_chart, rows_of_tail};
 
@@ -13,8 +15,7 @@ use crate::tail_walk::{TailWalk, TrackWalk};
 use crate::tailed::TailRef;
 use path_union::UnionWalk;
 use std::alloc::Global;
-use std::sync::ledger::Ledger;
-use step_count::Steps;
+use step_count::{Reads, Steps};
 use track_index::PathWalk;
 use track_types::{Answerer, Cell, Facts, Hit, Memory, Near, Region, Sighting};
 
@@ -24,6 +25,7 @@ impl<'a> Answerer for TailRef<'a> {
     ghost use Rattle.live_tail.specs.Facts.{facts_with};
     ghost use Rattle.live_tail.specs.Join.{joint_chart};
     ghost use Rattle.track_index.specs.Cost.{path_cost_until};
+    ghost use Rattle.track_index.specs.Needs.{needs_of};
 
     type Walk = TailWalk<'a, PathWalk<'a>>;
 
@@ -32,6 +34,8 @@ impl<'a> Answerer for TailRef<'a> {
     ghost facts = { λ a. facts_with a.tailed.now.parts a.tailed.now.tail };
 
     ghost cost = { λ a. cost_with a.tailed.now.parts a.tailed.now.tail };
+
+    ghost needs = { λ a. needs_of a.tailed.now.parts };
 
     ghost path_cost_until = { λ a. path_cost_until a.tailed.now.parts };
 
@@ -49,8 +53,9 @@ impl<'a> Answerer for TailRef<'a> {
         }
     }
 
-    fn position<L: Ledger>(self, object: u32, instant: i64, steps: &mut Steps<L>) -> Option<Cell>
-        requires { IsAsked instant }
+    fn position<L: Reads>(self, object: u32, instant: i64, steps: &mut Steps<L>) -> Option<Cell>
+        requires instant { IsAsked instant }
+        requires may { ReadsWithin (needs_of self.tailed.now.parts (asked.Position object instant)) L.may }
         ensures value { result ≡ cell_at
             (joint_chart (chart_in self.entry.tailed.now.parts) self.entry.tailed.now.tail).rows object instant }
         ensures cost { steps.new ≤ steps.old
@@ -82,7 +87,7 @@ impl<'a> Answerer for TailRef<'a> {
         Ok(UnionWalk::of(Some(own), Some(walk)))
     }
 
-    fn slice<L: Ledger>(
+    fn slice<L: Reads>(
         self,
         alloc: Global,
         instant: i64,
@@ -94,7 +99,7 @@ impl<'a> Answerer for TailRef<'a> {
         slice(alloc, index, self.tailed.tail(), instant, region, steps)
     }
 
-    fn interval<L: Ledger>(
+    fn interval<L: Reads>(
         self,
         alloc: Global,
         from: i64,
@@ -107,7 +112,7 @@ impl<'a> Answerer for TailRef<'a> {
         interval(alloc, index, self.tailed.tail(), from, to, region, steps)
     }
 
-    fn nearest<L: Ledger>(
+    fn nearest<L: Reads>(
         self,
         alloc: Global,
         count: u32,

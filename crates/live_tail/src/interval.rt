@@ -1,4 +1,5 @@
 ghost use Rattle.std.specs.Prelude.{◌≡◌, ◌++◌, ◌+◌, ◌≤◌, option_to_list, All, IfOk, OnOk};
+ghost use Rattle.step_count.specs.Reads.{ReadsWithin};
 ghost use Rattle.std.specs.List.{filter_map, sum_by};
 ghost use Rattle.std.specs.List.Sorted.{IsStrictlySortedBy};
 ghost use Rattle.track_types.specs.ByFilter.{hits_of};
@@ -9,9 +10,11 @@ ghost use Rattle.track_types.specs.Table.{IsTable};
 ghost use Rattle.track_types.specs.declared.question.Question.TheVariants as asked;
 ghost use Rattle.track_types.specs.declared.row.Row.{Row as RowView};
 ghost use Rattle.log_cursor.specs.Touching.{first_among};
+ghost use Rattle.snapshots.specs.Needs.{needs_between};
 ghost use Rattle.snapshots.specs.Parts.{chart_in};
 ghost use Rattle.interval_search.specs.FirstHits.{hit_in};
 ghost use Rattle.track_index.specs.Cost.{cost_of};
+ghost use Rattle.track_index.specs.Path.{path_needs};
 ghost use Rattle.live_tail.specs.Cost.{interval_cost_beside, standing_cost};
 ghost use Rattle.live_tail.specs.Hits.{standing};
 ghost use Rattle.live_tail.specs.Join.{rows_of_tail, rows_of_both};
@@ -22,8 +25,7 @@ use crate::small_rows::SmallRows;
 use crate::tail::Tail;
 use region_test::RegionTest;
 use std::alloc::Global;
-use std::sync::ledger::Ledger;
-use step_count::Steps;
+use step_count::{Reads, Steps};
 use track_index::{IndexRef, PathWalk};
 use track_types::{Answerer, Cell, CellBox, Hit, Memory, Region, Stop};
 
@@ -33,7 +35,7 @@ use track_types::{Answerer, Cell, CellBox, Hit, Memory, Region, Stop};
 /// What the index finds stands unless the tail has a row of the object at that instant: then its path is
 /// searched in both. Of this and of the tail's hits the first of each object is the answer. `Memory` is
 /// the only refusal.
-pub fn interval<L: Ledger>(
+pub fn interval<L: Reads>(
     alloc: Global,
     index: IndexRef<'_>,
     tail: &Tail,
@@ -45,6 +47,7 @@ pub fn interval<L: Ledger>(
     requires from { IsAsked from }
     requires to { IsAsked to }
     requires region { IsRegionAsked region.now }
+    requires may { ReadsWithin (needs_between index.index.now.frame from to) L.may }
     ensures ok { IfOk result (λ found. found.items ≡ hits_of
         (rows_of_both (chart_in index.entry.index.now).rows (rows_of_tail tail.now))
         from to region.now) }
@@ -73,7 +76,7 @@ pub fn interval<L: Ledger>(
 
 // Appends to what was found what stands of the index's hits in a window and a region. (It makes the
 // closures that answer the region, so that none takes them from it.)
-fn push_standing<L: Ledger>(
+fn push_standing<L: Reads>(
     alloc: Global,
     index: IndexRef<'_>,
     tail: &Tail,
@@ -87,6 +90,7 @@ fn push_standing<L: Ledger>(
     requires from { IsAsked window.0 }
     requires to { IsAsked window.1 }
     requires region { IsRegionAsked region.now }
+    requires may { ReadsWithin (needs_between index.index.now.frame window.0 window.1) L.may }
     ensures found { OnOk result (found.new.items ≡ found.old.items ++ filter_map (standing
         (chart_in index.entry.index.now).rows (rows_of_tail tail.now) window.0 window.1 region.now)
         hits.now) }
@@ -144,7 +148,7 @@ struct Window<'a> {
 
 impl<'a> Window<'a> {
     // Appends to what was found what stands of the index's hits.
-    fn push_standing<L: Ledger>(
+    fn push_standing<L: Reads>(
         &self,
         alloc: Global,
         hits: &[Hit],
@@ -154,6 +158,8 @@ impl<'a> Window<'a> {
         requires table { IsTable (chart_in self.now.index.index.now) }
         requires from { IsAsked self.now.from }
         requires to { IsAsked self.now.to }
+        requires may { ReadsWithin (needs_between self.now.index.index.now.frame self.now.from self.now.to)
+            L.may }
         ensures found { OnOk result (found.new.items ≡ found.old.items ++ filter_map (standing
             (chart_in self.now.index.index.now).rows (rows_of_tail self.now.tail.now)
             self.now.from self.now.to self.now.test.now.region) hits.now) }
@@ -169,7 +175,7 @@ impl<'a> Window<'a> {
 
     // What stands of a hit of the index: if the tail has a row of its object and instant, the object's
     // first hit in both.
-    fn standing<L: Ledger>(
+    fn standing<L: Reads>(
         &self,
         alloc: Global,
         hit: Hit,
@@ -178,6 +184,8 @@ impl<'a> Window<'a> {
         requires table { IsTable (chart_in self.now.index.index.now) }
         requires from { IsAsked self.now.from }
         requires to { IsAsked self.now.to }
+        requires may { ReadsWithin (needs_between self.now.index.index.now.frame self.now.from self.now.to)
+            L.may }
         ensures ok { IfOk result (λ stands. stands ≡ standing
             (chart_in self.now.index.index.now).rows (rows_of_tail self.now.tail.now)
             self.now.from self.now.to self.now.test.now.region hit) }
@@ -191,7 +199,7 @@ impl<'a> Window<'a> {
     }
 
     // The first hit of an object, if it has one.
-    fn first_hit<L: Ledger>(
+    fn first_hit<L: Reads>(
         &self,
         alloc: Global,
         object: u32,
@@ -200,6 +208,8 @@ impl<'a> Window<'a> {
         requires table { IsTable (chart_in self.now.index.index.now) }
         requires from { IsAsked self.now.from }
         requires to { IsAsked self.now.to }
+        requires may { ReadsWithin (needs_between self.now.index.index.now.frame self.now.from self.now.to)
+            L.may }
         ensures ok { IfOk result (λ hit. hit ≡ hit_in
             (rows_of_both (chart_in self.now.index.index.now).rows (rows_of_tail self.now.tail.now))
             self.now.from self.now.to self.now.test.now.region object) }
@@ -233,7 +243,7 @@ fn push_found(found: &mut Vec<Hit>, hit: Option<Hit>) -> Result<(), Memory>
 // The first stop in a region, of an object's rows and of a walk. If both have an instant, the row
 // counts, be it in the region or not. Beyond the answer the walk is drawn at most to its next stop in
 // the region.
-fn first_of_both<L: Ledger>(
+fn first_of_both<L: Reads>(
     walk: &mut PathWalk<'_>,
     own: SmallRows<'_>,
     test: &RegionTest,
@@ -241,6 +251,7 @@ fn first_of_both<L: Ledger>(
 ) -> Option<Stop>
     requires near { All (λ (row : RowView). IsCellWithin row.cell) (rows_in own) }
     requires ascending { IsStrictlySortedBy stop_order walk.old.stops }
+    requires may { ReadsWithin (path_needs walk.old) L.may }
     ensures value { result ≡ first_among test.now.region (stops_with (rows_in own.entry) walk.old.stops) }
     ensures cost { steps.new ≤ steps.old + walk.old.reads }
 {

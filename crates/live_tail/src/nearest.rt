@@ -1,6 +1,8 @@
-ghost use Rattle.std.specs.Prelude.{◌≡◌, ◌++◌, ◌+◌, ◌-◌, ◌^◌, ◌≤◌, All, IfOk, OnOk, filter, length, map, min};
+ghost use Rattle.std.specs.Prelude.{◌≡◌, ◌++◌, ◌+◌, ◌-◌, ◌^◌, ◌≤◌, All, ℕ, IfOk, OnOk, filter, length, map, min};
+ghost use Rattle.step_count.specs.Reads.{ReadsWithin};
 ghost use Rattle.track_types.specs.ByFilter.{is_row_at, near_of, nears_of};
 ghost use Rattle.track_types.specs.Near.{IsAsked, IsCellAsked, IsCellWithin};
+ghost use Rattle.track_types.specs.declared.question.Question.TheVariants as asked;
 ghost use Rattle.track_types.specs.declared.row.Row.{Row as RowView};
 ghost use Rattle.live_tail.specs.Cost.{nearest_cost_beside};
 ghost use Rattle.live_tail.specs.Join.{rows_of_tail, rows_of_both};
@@ -9,8 +11,7 @@ ghost use Rattle.live_tail.specs.SmallRows.{rows_in};
 use crate::small_rows::SmallRows;
 use crate::tail::Tail;
 use std::alloc::Global;
-use std::sync::ledger::Ledger;
-use step_count::Steps;
+use step_count::{Reads, Steps};
 use track_types::{Answerer, Cell, Memory, Near, dist2};
 
 /// The `count` rows of an instant that are nearest to a cell, of an answerer's chart with a tail, in
@@ -18,7 +19,7 @@ use track_types::{Answerer, Cell, Memory, Near, dist2};
 ///
 /// The answerer is asked for `count`, and for one more for each row that the tail has of the instant,
 /// since as many of its rows may give way to the tail's. `Memory` is the only refusal.
-pub fn nearest<A: Answerer, L: Ledger>(
+pub fn nearest<A: Answerer, L: Reads>(
     alloc: Global,
     answerer: A,
     tail: &Tail,
@@ -30,6 +31,8 @@ pub fn nearest<A: Answerer, L: Ledger>(
     requires instant { IsAsked instant }
     requires cell { IsCellAsked cell }
     requires few { length (filter (is_row_at instant) (A.chart answerer).rows) ≤ 2 ^ 32 - 1 }
+    requires may { (wanted : ℕ) →
+        ReadsWithin (A.needs answerer (asked.Nearest wanted instant cell)) L.may }
     ensures ok { IfOk result (λ found. found.items ≡ nears_of
         (rows_of_both (A.chart answerer).rows (rows_of_tail tail.now)) count instant cell) }
     ensures cost { steps.new ≤ steps.old

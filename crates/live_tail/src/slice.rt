@@ -1,4 +1,5 @@
 ghost use Rattle.std.specs.Prelude.{◌≡◌, ◌++◌, ◌+◌, ◌≤◌, All, IfOk, OnOk, filter, map};
+ghost use Rattle.step_count.specs.Reads.{ReadsWithin};
 ghost use Rattle.track_types.specs.ByFilter.{sighting_of, sightings_of};
 ghost use Rattle.track_types.specs.Near.{IsAsked, IsCellWithin};
 ghost use Rattle.track_types.specs.Region.{IsRegionAsked, IsRegionWithin, in_region};
@@ -10,15 +11,14 @@ ghost use Rattle.live_tail.specs.SmallRows.{rows_in};
 use crate::small_rows::SmallRows;
 use crate::tail::Tail;
 use std::alloc::Global;
-use std::sync::ledger::Ledger;
-use step_count::Steps;
+use step_count::{Reads, Steps};
 use track_types::{Answerer, Memory, Region, Sighting};
 
 /// The rows of an instant in a region, by object, of an answerer's chart with a tail.
 ///
 /// If the tail has a row of an object at the instant, what the answerer finds for it gives way, be the
 /// tail's row in the region or not. `Memory` is the only refusal.
-pub fn slice<A: Answerer, L: Ledger>(
+pub fn slice<A: Answerer, L: Reads>(
     alloc: Global,
     answerer: A,
     tail: &Tail,
@@ -28,6 +28,7 @@ pub fn slice<A: Answerer, L: Ledger>(
 ) -> Result<Vec<Sighting>, Memory>
     requires instant { IsAsked instant }
     requires region { IsRegionAsked region.now }
+    requires may { ReadsWithin (A.needs answerer (asked.Slice instant region.now)) L.may }
     ensures ok { IfOk result (λ found. found.items ≡ sightings_of
         (rows_of_both (A.chart answerer).rows (rows_of_tail tail.now)) instant region.now) }
     ensures cost { steps.new ≤ steps.old + A.cost answerer (asked.Slice instant region.now) }

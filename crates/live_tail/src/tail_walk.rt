@@ -2,8 +2,7 @@ ghost use Rattle.std.specs.Prelude.{◌≡◌};
 
 use crate::small_rows::SmallRows;
 use path_union::UnionWalk;
-use std::sync::ledger::Ledger;
-use step_count::Steps;
+use step_count::{Reads, Steps};
 use track_types::{Lazy, Stop, StopWalk};
 
 /// A walk over the stops of an object in a window, with the rows that a tail has of the object there.
@@ -29,7 +28,7 @@ impl<'a> TrackWalk<'a> {
 }
 
 impl<'a> Lazy for TrackWalk<'a> {
-    ghost use Rattle.std.specs.Prelude.{map};
+    ghost use Rattle.std.specs.Prelude.{false, map};
     ghost use Rattle.track_types.specs.ByFilter.{stop_of};
     ghost use Rattle.live_tail.specs.SmallRows.{rows_in};
 
@@ -39,7 +38,9 @@ impl<'a> Lazy for TrackWalk<'a> {
 
     ghost budget = { λ w. 0 };
 
-    fn draw<L: Ledger>(&mut self, _steps: &mut Steps<L>) -> Option<Stop> {
+    ghost needs = { λ _ _. false };
+
+    fn draw<L: Reads>(&mut self, _steps: &mut Steps<L>) -> Option<Stop> {
         match self.rows.take_first() {
             Some(row) => Some(Stop {
                 instant: row.instant,
@@ -53,7 +54,7 @@ impl<'a> Lazy for TrackWalk<'a> {
 impl<'a> StopWalk for TrackWalk<'a> {
     ghost reads_past = { λ w _. 0 };
 
-    fn next<L: Ledger>(&mut self, steps: &mut Steps<L>) -> Option<Stop> {
+    fn next<L: Reads>(&mut self, steps: &mut Steps<L>) -> Option<Stop> {
         self.draw(steps)
     }
 }

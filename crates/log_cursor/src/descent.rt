@@ -1,4 +1,5 @@
 ghost use Rattle.std.specs.Prelude.{◌≡◌, ◌+◌, ◌≤◌, ◌<◌, ℤ, length, if◌then◌else◌};
+ghost use Rattle.step_count.specs.Reads.{is_of_log, ReadsWithin};
 ghost use Rattle.std.specs.Option.{option_map};
 ghost use Rattle.track_types.specs.declared.region.Region.{Region};
 ghost use Rattle.rule_store.specs.Log.{log_of};
@@ -22,8 +23,7 @@ use crate::searching::{anchor_hit, touches};
 use crate::start::Start;
 use region_test::RegionTest;
 use rule_store::{LogView, RuleStore};
-use std::sync::ledger::Ledger;
-use step_count::Steps;
+use step_count::{Reads, Steps};
 use track_types::Cell;
 
 /// How far a search at one instant has come.
@@ -54,12 +54,13 @@ impl Descent {
     /// The first symbol of a block's log, if a search at the instant begins with it: the instant is
     /// after the anchor's. It is read, and its entry is not looked at. So whoever begins many searches
     /// may have the first symbols of all their logs on the way from memory at once.
-    pub fn first_symbol<L: Ledger>(
+    pub fn first_symbol<L: Reads>(
         view: LogView<'_>,
         start: Start,
         instant: i64,
         steps: &mut Steps<L>,
     ) -> Option<u32>
+        requires may { ReadsWithin is_of_log L.may }
         ensures value { result ≡ first_needed (log_of view.entry) start instant }
         ensures cost { steps.new ≡ steps.old + first_reads result }
     {
@@ -72,7 +73,7 @@ impl Descent {
     /// The search in the symbol of a block's log that has the instant. Its first symbol was read
     /// before, if it is needed (`first_symbol`). It reads the symbols after it up to the one that has
     /// the instant.
-    pub fn begin<L: Ledger>(
+    pub fn begin<L: Reads>(
         view: LogView<'_>,
         start: Start,
         first: Option<u32>,
@@ -82,6 +83,7 @@ impl Descent {
     ) -> Descent
         requires placed { IsPlaced view.rules.now start (log_of view) }
         requires first { first ≡ first_needed (log_of view) start instant }
+        requires may { ReadsWithin is_of_log L.may }
         ensures sound { IsDescent view.entry.rules.now instant result }
         ensures hit { hit_of view.entry.rules.now instant test.now.region result
             ≡ first_hit_of view.entry.rules.now (log_of view.entry) start instant instant
@@ -160,8 +162,9 @@ impl Descent {
     }
 
     /// The search after the rule that touches the region was opened.
-    pub fn opened<L: Ledger>(self, rules: &RuleStore, instant: i64, steps: &mut Steps<L>) -> Descent
-        requires { IsDescent rules.now instant self }
+    pub fn opened<L: Reads>(self, rules: &RuleStore, instant: i64, steps: &mut Steps<L>) -> Descent
+        requires sound { IsDescent rules.now instant self }
+        requires may { ReadsWithin is_of_log L.may }
         ensures sound { IsDescent rules.now instant result }
         ensures hit { (region : Region) → hit_of rules.now instant region result
             ≡ hit_of rules.now instant region self }

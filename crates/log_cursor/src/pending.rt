@@ -1,4 +1,5 @@
 ghost use Rattle.std.specs.Prelude.{◌≡◌, ◌+◌, ◌<◌, ◌≤◌, [], ◌∷◌, length, IfNone, IfSome, IfOk, nat_le};
+ghost use Rattle.step_count.specs.Reads.{is_of_log, ReadsWithin};
 ghost use Rattle.rule_store.specs.Flaws.{AreRules, left_of, right_of};
 ghost use Rattle.rule_store.specs.Log.{log_of};
 ghost use Rattle.rule_store.specs.Cost.{parts_reads};
@@ -9,8 +10,7 @@ use rule_store::{Entry, LogView, RuleStore};
 use smallvec::SmallVec;
 use std::alloc::Global;
 use std::marker::Model;
-use std::sync::ledger::Ledger;
-use step_count::Steps;
+use step_count::{Reads, Steps};
 use track_types::Memory;
 
 // How many parts of opened rules are kept in the value itself.
@@ -80,7 +80,8 @@ impl<'a> Pending<'a> {
     }
 
     /// Takes the next symbol off and answers its entry. A symbol of the log is read.
-    pub fn next<L: Ledger>(&mut self, steps: &mut Steps<L>) -> Option<Entry>
+    pub fn next<L: Reads>(&mut self, steps: &mut Steps<L>) -> Option<Entry>
+        requires may { ReadsWithin is_of_log L.may }
         ensures rules { self.new.rules ≡ self.old.rules }
         ensures none { IfNone result (self.old.symbols ≡ []) }
         ensures end { IfNone result (self.new.symbols ≡ []) }
@@ -109,9 +110,10 @@ impl<'a> Pending<'a> {
     }
 
     /// Puts the two parts of the rule that was taken off last before all others, by one read.
-    pub fn open<L: Ledger>(&mut self, rule: u32, steps: &mut Steps<L>)
+    pub fn open<L: Reads>(&mut self, rule: u32, steps: &mut Steps<L>)
         requires rule { length self.old.rules.alphabet ≤ rule }
         requires roomy { IsRoomy self.old.rules self.old.depth rule }
+        requires may { ReadsWithin is_of_log L.may }
         ensures rules { self.new.rules ≡ self.old.rules }
         ensures symbols { self.new.symbols
             ≡ left_of self.old.rules rule ∷ right_of self.old.rules rule ∷ self.old.symbols }

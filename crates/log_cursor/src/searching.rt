@@ -1,4 +1,5 @@
 ghost use Rattle.std.specs.Prelude.{◌≡◌, ◌+◌, ◌≤◌, ◌≤ℤ◌, ◌<ℤ◌, [], ◌∷◌, length, IfOk, IfSome};
+ghost use Rattle.step_count.specs.Reads.{is_of_log, ReadsWithin};
 ghost use Rattle.track_types.specs.Near.{IsBoxWithin, IsCellAsked};
 ghost use Rattle.rule_store.specs.Log.{in_window, log_of, stop_at};
 ghost use Rattle.log_cursor.specs.Start.{IsBoxAsked, IsHullAsked, IsPlaced, IsWayOf};
@@ -21,8 +22,7 @@ use crate::walk::stop_within;
 use region_test::RegionTest;
 use rule_store::LogView;
 use std::alloc::Global;
-use std::sync::ledger::Ledger;
-use step_count::Steps;
+use step_count::{Reads, Steps};
 use track_types::{Cell, CellBox, Memory, Stop};
 
 // How many rules a search opens before it remembers any: a short one makes no table.
@@ -36,7 +36,7 @@ const FORGOTTEN: u32 = 64;
 /// cell of the region, is passed over unopened. It makes at most one read for each symbol of the log
 /// and for each rule node of its parse trees that is not passed over. In a window that ends before it
 /// begins it makes none. Where the grammar is deep, it takes memory for the parts of opened rules.
-pub fn first_hit<L: Ledger>(
+pub fn first_hit<L: Reads>(
     alloc: Global,
     view: LogView<'_>,
     start: Start,
@@ -45,7 +45,8 @@ pub fn first_hit<L: Ledger>(
     test: &RegionTest,
     steps: &mut Steps<L>,
 ) -> Result<Option<Stop>, Memory>
-    requires { IsPlaced view.rules.now start (log_of view) }
+    requires placed { IsPlaced view.rules.now start (log_of view) }
+    requires may { ReadsWithin is_of_log L.may }
     ensures value { IfOk result (λ found. found
         ≡ first_hit_of view.entry.rules.now (log_of view.entry) start from to test.now.region) }
     ensures cost { steps.new ≤ steps.old + (length (log_of view.entry)
@@ -79,7 +80,7 @@ pub(crate) fn anchor_hit(start: Start, from: i64, to: i64, test: &RegionTest) ->
 
 /// The first hit of symbols that begin after a start. No symbol after it is taken off. It remembers
 /// the rules that it opens once they are many.
-pub(crate) fn hit_after<L: Ledger>(
+pub(crate) fn hit_after<L: Reads>(
     pending: &mut Pending<'_>,
     start: Start,
     from: i64,
@@ -89,6 +90,7 @@ pub(crate) fn hit_after<L: Ledger>(
 ) -> Option<Stop>
     requires way { IsWayOf pending.old.rules start pending.old.symbols }
     requires window { from ≤ℤ to }
+    requires may { ReadsWithin is_of_log L.may }
     ensures value { result ≡ hit_left pending.old.rules from to test.now.region start
         pending.old.symbols }
     ensures left { IfSome result (IsHitOf test.now.region from to start pending.old pending.new
@@ -125,7 +127,7 @@ pub(crate) fn hit_after<L: Ledger>(
 
 // The same for a search that opens many rules. It passes over a rule that it meets again at the cell
 // where it was opened within the window, as long as it remembers that.
-fn hit_beyond<L: Ledger>(
+fn hit_beyond<L: Reads>(
     pending: &mut Pending<'_>,
     start: Start,
     from: i64,
@@ -135,6 +137,7 @@ fn hit_beyond<L: Ledger>(
 ) -> Option<Stop>
     requires way { IsWayOf pending.old.rules start pending.old.symbols }
     requires window { from ≤ℤ to }
+    requires may { ReadsWithin is_of_log L.may }
     ensures value { result ≡ hit_left pending.old.rules from to test.now.region start
         pending.old.symbols }
     ensures left { IfSome result (IsHitOf test.now.region from to start pending.old pending.new

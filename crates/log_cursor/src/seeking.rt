@@ -1,4 +1,5 @@
 ghost use Rattle.std.specs.Prelude.{◌≡◌, ◌+◌, ◌≤◌, ◌<ℤ◌, ◌≤ℤ◌, ◌+ℤ◌, pos, ◌<◌, [], ◌∷◌, length};
+ghost use Rattle.step_count.specs.Reads.{is_of_log, ReadsWithin};
 ghost use Rattle.rule_store.specs.View.{symbols_in};
 ghost use Rattle.rule_store.specs.Expansion.{depth_in, depth_of};
 ghost use Rattle.rule_store.specs.Entry.{entry_of};
@@ -9,8 +10,7 @@ ghost use Rattle.log_cursor.specs.Cost.{seek_reads};
 
 use crate::start::Start;
 use rule_store::{Entry, LogView, RuleStore};
-use std::sync::ledger::Ledger;
-use step_count::Steps;
+use step_count::{Reads, Steps};
 use track_types::Cell;
 
 /// The cell of a block's object at an instant, by the block's log and its anchor. `None` if and only if
@@ -21,13 +21,14 @@ use track_types::Cell;
 /// at each depth below the symbol that has it, and takes no memory. It makes at most one read for
 /// each symbol of the log and one for each depth of the grammar. For an instant up to the anchor's
 /// it makes none.
-pub fn seek<L: Ledger>(
+pub fn seek<L: Reads>(
     view: LogView<'_>,
     start: Start,
     instant: i64,
     steps: &mut Steps<L>,
 ) -> Option<Cell>
-    requires { IsPlaced view.rules.now start (log_of view) }
+    requires placed { IsPlaced view.rules.now start (log_of view) }
+    requires may { ReadsWithin is_of_log L.may }
     ensures value { result ≡ cell_among (block_stops view.entry.rules.now start.instant start.cell
         (log_of view.entry)) instant }
     ensures cost { steps.new ≤ steps.old
@@ -56,7 +57,7 @@ pub fn seek<L: Ledger>(
 }
 
 // The cell at an instant of a symbol that begins after a start.
-fn cell_within<L: Ledger>(
+fn cell_within<L: Reads>(
     rules: &RuleStore,
     entry: Entry,
     start: Start,
@@ -68,6 +69,7 @@ fn cell_within<L: Ledger>(
     requires way { IsWayOf rules.now start (entry.symbol ∷ []) }
     requires after { start.instant <ℤ instant }
     requires within { instant ≤ℤ (start.instant +ℤ pos entry.duration) }
+    requires may { ReadsWithin is_of_log L.may }
     ensures value { result ≡ cell_among (stops_after rules.now start.instant start.cell
         (entry.symbol ∷ [])) instant }
     ensures cost { steps.new ≤ steps.old + depth_of rules.now entry.symbol }

@@ -1,4 +1,5 @@
 ghost use Rattle.std.specs.Prelude.{◌≡◌, ◌++◌, ◌+◌, ◌≤◌, ℤ, ◌≤ℤ◌, [], ◌∷◌, IfNone, IfOk, IfSome, option_to_list};
+ghost use Rattle.step_count.specs.Reads.{is_of_log, ReadsWithin};
 ghost use Rattle.rule_store.specs.Log.{in_window, log_of, stop_at};
 ghost use Rattle.rule_store.specs.Nodes.{block_budget};
 ghost use Rattle.log_cursor.specs.Start.{IsPlaced};
@@ -12,8 +13,7 @@ use region_test::RegionTest;
 use rule_store::{Entry, LogView, RuleStore};
 use std::alloc::Global;
 use std::marker::Model;
-use std::sync::ledger::Ledger;
-use step_count::Steps;
+use step_count::{Reads, Steps};
 use track_types::{Cell, Lazy, Memory, Stop};
 
 /// A walk over the stops of a block whose instants are in a window, in their order. One walk serves
@@ -93,7 +93,8 @@ impl<'a> BlockWalk<'a> {
     /// in the region, it draws all.
     ///
     /// It passes over what `first_hit` does, and takes no memory.
-    pub fn draw_in<L: Ledger>(&mut self, test: &RegionTest, steps: &mut Steps<L>) -> Option<Stop>
+    pub fn draw_in<L: Reads>(&mut self, test: &RegionTest, steps: &mut Steps<L>) -> Option<Stop>
+        requires may { ReadsWithin is_of_log L.may }
         ensures drawn { IsDrawnIn test.now.region self.old.stops self.new.stops result }
         ensures cost { steps.new + self.new.reads ≤ steps.old + self.old.reads }
         ensures rules { self.new.rules ≡ self.old.rules }
@@ -123,7 +124,10 @@ impl<'a> Lazy for BlockWalk<'a> {
 
     ghost budget = { λ w. w.reads };
 
-    fn draw<L: Ledger>(&mut self, steps: &mut Steps<L>) -> Option<Stop>
+    ghost needs = { λ _. is_of_log };
+
+    fn draw<L: Reads>(&mut self, steps: &mut Steps<L>) -> Option<Stop>
+        requires may { ReadsWithin is_of_log L.may }
         ensures found { self.old.stops ≡ option_to_list result ++ self.new.stops }
         ensures none { IfNone result (self.old.stops ≡ []) }
         ensures cost { steps.new + self.new.reads ≤ steps.old + self.old.reads }

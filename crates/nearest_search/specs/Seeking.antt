@@ -66,6 +66,7 @@ pub record IsQuest (quest : Quest) : Type 0 where
 -- a search asks such a thing, and knows how far an object gets
 pub record IsSearch (sought : Sought) : Type 0 where
   pub is : IsQuest (quest_of sought)
+  pub number : sought.kept.now.number.value ≡ sought.period
   pub width : sought.reach.width ≡ width_in_64_bits sought.stores.now sought.period sought.instant
 
 -- a sum over what waits

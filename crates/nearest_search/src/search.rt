@@ -1,6 +1,8 @@
-ghost use Rattle.std.specs.Prelude.{◌≡◌, ◌+◌, ◌<◌, ◌≤◌, ℕ, IfOk};
+ghost use Rattle.std.specs.Prelude.{◌≡◌, ◌+◌, ◌<◌, ◌≤◌, ℕ, IfOk, IsTrue};
+ghost use Rattle.step_count.specs.Reads.{is_of_log, ofPeriod, ReadsWithin};
 ghost use Rattle.track_types.specs.ByFilter.{nears_of};
 ghost use Rattle.track_types.specs.Near.{IsAsked, IsCellAsked};
+ghost use Rattle.snapshots.specs.Needs.{needs_at};
 ghost use Rattle.snapshots.specs.Parts.{chart_in};
 ghost use Rattle.nearest_search.specs.Cost.{nearest_cost, period_near_cost};
 ghost use Rattle.nearest_search.specs.Seeking.{IsSearch};
@@ -11,8 +13,7 @@ use crate::sought::Sought;
 use crate::waiting::Waiting;
 use snapshots::Stores;
 use std::alloc::Global;
-use std::sync::ledger::Ledger;
-use step_count::Steps;
+use step_count::{Reads, Steps};
 use track_types::{Cell, Memory, Near};
 
 /// The objects that are nearest to a cell at an instant, at most `count` of them, by squared distance,
@@ -21,7 +22,7 @@ use track_types::{Cell, Memory, Near};
 /// There are none at an instant outside the index. The instant and the cell's coordinates are at most
 /// 2^41 away from 0. `Memory` is the only refusal. At no time are more than `count` objects kept, and
 /// what waits is taken before what is farther.
-pub fn nearest<L: Ledger>(
+pub fn nearest<L: Reads>(
     alloc: Global,
     stores: &Stores,
     count: u32,
@@ -31,6 +32,7 @@ pub fn nearest<L: Ledger>(
 ) -> Result<Vec<Near>, Memory>
     requires instant { IsAsked instant }
     requires cell { IsCellAsked cell }
+    requires may { ReadsWithin (needs_at stores.now.frame instant) L.may }
     ensures ok { IfOk result (λ found.
         found.items ≡ nears_of (chart_in stores.now).rows count instant cell) }
     ensures cost { steps.new ≤ steps.old + nearest_cost stores.now count instant cell }
@@ -57,7 +59,7 @@ pub fn nearest<L: Ledger>(
 
 impl<'a> Sought<'a> {
     // The nearest, at most `count` of them, which is at least one.
-    fn nearest<L: Ledger>(
+    fn nearest<L: Reads>(
         &self,
         alloc: Global,
         count: u32,
@@ -65,6 +67,8 @@ impl<'a> Sought<'a> {
     ) -> Result<Vec<Near>, Memory>
         requires search { IsSearch self.now }
         requires some { 0 < count }
+        requires may { IsTrue (L.may (ofPeriod self.now.period)) }
+        requires logs { ReadsWithin is_of_log L.may }
         ensures ok { IfOk result (λ found. found.items
             ≡ nears_of (chart_in self.now.stores.now).rows count self.now.instant self.now.reach.cell) }
         ensures cost { steps.new ≤ steps.old + period_near_cost self.now.stores.now count

@@ -1,4 +1,5 @@
-ghost use Rattle.std.specs.Prelude.{◌≡◌, ℕ, ◌+◌, ◌-◌, ◌*◌, ◌≤◌, ◌<◌, [], length, map, true, Bool, IfOk, IfSome, OnOk, Some, All};
+ghost use Rattle.std.specs.Prelude.{◌≡◌, ℕ, ◌+◌, ◌-◌, ◌*◌, ◌≤◌, ◌<◌, [], length, map, true, Bool, IfOk, IfSome, OnOk, Some, All, IsTrue};
+ghost use Rattle.step_count.specs.Reads.{is_of_log, ofPeriod, ReadsWithin};
 ghost use Rattle.std.specs.List.{range_with_len};
 ghost use Rattle.std.specs.BinaryHeap.{heap_items};
 ghost use Rattle.k2_tree.specs.Squares.{Node};
@@ -24,8 +25,7 @@ use log_cursor::seek;
 use object_track::Placed;
 use snapshots::{Anchored, Stores, TrackTree};
 use std::alloc::Global;
-use std::sync::ledger::Ledger;
-use step_count::Steps;
+use step_count::{Reads, Steps};
 use track_types::{Cell, Memory, Near, dist2};
 
 /// What is sought in one period: the objects that are near a cell at an instant.
@@ -41,12 +41,13 @@ pub(crate) struct Sought<'a> {
 
 impl<'a> Sought<'a> {
     /// What waits at first: the node of the whole grid. It reads the node's box.
-    pub(crate) fn begin<L: Ledger>(
+    pub(crate) fn begin<L: Reads>(
         &self,
         alloc: Global,
         steps: &mut Steps<L>,
     ) -> Result<Queue, Memory>
         requires search { IsSearch self.now }
+        requires may { IsTrue (L.may (ofPeriod self.now.period)) }
         ensures seeking { IfOk result (λ queue. (count : ℕ) (closest : ClosestView) → 0 < count
             → closest.wanted ≡ count → closest.nears ≡ [] → AreSeeking (quest_of self.now) count
             steps.old (heap_items queue.heap) closest steps.new) }
@@ -62,7 +63,7 @@ impl<'a> Sought<'a> {
     }
 
     // Puts a node among what waits. It reads the node's box.
-    fn queue_node<L: Ledger>(
+    fn queue_node<L: Reads>(
         &self,
         node: NodeRef,
         queue: &mut Queue,
@@ -70,6 +71,7 @@ impl<'a> Sought<'a> {
     ) -> Result<(), Memory>
         requires search { IsSearch self.now }
         requires node { IsNodeOf self.now.kept.now.tree node }
+        requires may { IsTrue (L.may (ofPeriod self.now.period)) }
         ensures queued { OnOk result (IsQueued (quest_of self.now) (AtNode node)
             (heap_items queue.old.heap) (heap_items queue.new.heap)) }
         ensures cost { steps.new ≤ steps.old + box_reads }
@@ -83,7 +85,7 @@ impl<'a> Sought<'a> {
     }
 
     // Puts nodes among what waits, the last one first.
-    fn queue_nodes<L: Ledger>(
+    fn queue_nodes<L: Reads>(
         &self,
         nodes: &mut ArrayVec<NodeRef, SLOTS>,
         queue: &mut Queue,
@@ -91,6 +93,7 @@ impl<'a> Sought<'a> {
     ) -> Result<(), Memory>
         requires search { IsSearch self.now }
         requires nodes { All (IsNodeOf self.now.kept.now.tree) nodes.old.items }
+        requires may { IsTrue (L.may (ofPeriod self.now.period)) }
         ensures added { OnOk result (AreAdded (quest_of self.now) (map AtNode nodes.old.items)
             (heap_items queue.old.heap) (heap_items queue.new.heap)) }
         ensures cost { steps.new ≤ steps.old + box_reads * length nodes.old.items }
@@ -102,7 +105,7 @@ impl<'a> Sought<'a> {
     }
 
     // Puts the places of a bucket among what waits, the last one first.
-    fn queue_places<L: Ledger>(
+    fn queue_places<L: Reads>(
         &self,
         low: u32,
         high: u32,
@@ -111,6 +114,7 @@ impl<'a> Sought<'a> {
     ) -> Result<(), Memory>
         requires search { IsSearch self.now }
         requires within { high ≤ length self.now.kept.now.tree.places.codes }
+        requires may { IsTrue (L.may (ofPeriod self.now.period)) }
         ensures added { OnOk result (AreAdded (quest_of self.now)
             (map AtPlace (range_with_len low (high - low)))
             (heap_items queue.old.heap) (heap_items queue.new.heap)) }
@@ -123,7 +127,7 @@ impl<'a> Sought<'a> {
     }
 
     // Puts a place among what waits. It reads the place's box and its cell.
-    fn queue_place<L: Ledger>(
+    fn queue_place<L: Reads>(
         &self,
         place: u32,
         queue: &mut Queue,
@@ -131,6 +135,7 @@ impl<'a> Sought<'a> {
     ) -> Result<(), Memory>
         requires search { IsSearch self.now }
         requires place { place < length self.now.kept.now.tree.places.codes }
+        requires may { IsTrue (L.may (ofPeriod self.now.period)) }
         ensures queued { OnOk result (IsQueued (quest_of self.now) (AtPlace place)
             (heap_items queue.old.heap) (heap_items queue.new.heap)) }
         ensures cost { steps.new ≤ steps.old + place_reads }
@@ -144,7 +149,7 @@ impl<'a> Sought<'a> {
     }
 
     /// Puts what a node holds among what waits: the children of a branch, or the places of a bucket.
-    pub(crate) fn open<L: Ledger>(
+    pub(crate) fn open<L: Reads>(
         &self,
         node: NodeRef,
         queue: &mut Queue,
@@ -152,6 +157,7 @@ impl<'a> Sought<'a> {
     ) -> Result<(), Memory>
         requires search { IsSearch self.now }
         requires node { IsNodeOf self.now.kept.now.tree node }
+        requires may { IsTrue (L.may (ofPeriod self.now.period)) }
         ensures opened { OnOk result (OpensWaiting (quest_of self.now) (AtNode node)
             (heap_items queue.old.heap) (heap_items queue.new.heap)) }
         ensures paid { OnOk result (IsPaid (quest_of self.now) (AtNode node)
@@ -176,9 +182,11 @@ impl<'a> Sought<'a> {
     }
 
     /// How near the object of the block at a place is, if it is present at the instant.
-    pub(crate) fn near<L: Ledger>(&self, place: u32, steps: &mut Steps<L>) -> Option<Near>
+    pub(crate) fn near<L: Reads>(&self, place: u32, steps: &mut Steps<L>) -> Option<Near>
         requires search { IsSearch self.now }
         requires place { place < length self.now.kept.now.tree.places.codes }
+        requires may { IsTrue (L.may (ofPeriod self.now.period)) }
+        requires logs { ReadsWithin is_of_log L.may }
         ensures value { result ≡ near_at (quest_of self.now) place }
         ensures cost { steps.new ≤ steps.old + seek_reads_at (quest_of self.now) place }
     {
@@ -193,9 +201,10 @@ impl<'a> Sought<'a> {
     }
 
     // The cell of a block's object at the instant, by the block's log.
-    fn cell_of<L: Ledger>(&self, block: &Anchored, steps: &mut Steps<L>) -> Option<Cell>
+    fn cell_of<L: Reads>(&self, block: &Anchored, steps: &mut Steps<L>) -> Option<Cell>
         requires search { IsSearch self.now }
         requires block { IsBlock (snapshot_in self.now.stores.now self.now.period) block.now }
+        requires logs { ReadsWithin is_of_log L.may }
         ensures value { result ≡ cell_among
             (stops_of self.now.stores.now self.now.period block.now) self.now.instant }
         ensures within { IfSome result (λ cell. IsCellWithin cell) }

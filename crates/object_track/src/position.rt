@@ -1,4 +1,5 @@
-ghost use Rattle.std.specs.Prelude.{◌≡◌, ◌<◌, ◌≤◌, ◌+◌, length, Some};
+ghost use Rattle.std.specs.Prelude.{◌≡◌, ◌<◌, ◌≤◌, ◌+◌, length, IsTrue, Some};
+ghost use Rattle.step_count.specs.Reads.{is_of_log, ofPeriod, ReadsWithin};
 ghost use Rattle.track_types.specs.Frame.{periods_of};
 ghost use Rattle.log_cursor.specs.Seek.{cell_among};
 ghost use Rattle.snapshots.specs.IndexCost.{position_cost_in};
@@ -7,14 +8,13 @@ ghost use Rattle.snapshots.specs.Parts.{stops_in};
 use crate::placing::Placed;
 use log_cursor::seek;
 use snapshots::Stores;
-use std::sync::ledger::Ledger;
-use step_count::Steps;
+use step_count::{Reads, Steps};
 use track_types::Cell;
 
 /// The cell of the object at a place among all objects, at an instant, by its block of a period, which
 /// is one of the header's. `None` if and only if the period has no stop of it at the instant. It takes
 /// no memory.
-pub fn cell_in<L: Ledger>(
+pub fn cell_in<L: Reads>(
     stores: &Stores,
     place: u32,
     period: u32,
@@ -23,6 +23,8 @@ pub fn cell_in<L: Ledger>(
 ) -> Option<Cell>
     requires place { place < length stores.now.objects }
     requires period { period < periods_of stores.now.frame }
+    requires may { IsTrue (L.may (ofPeriod period)) }
+    requires logs { ReadsWithin is_of_log L.may }
     ensures value { result ≡ cell_among (stops_in stores.now place period) instant }
     ensures cost { steps.new
         ≤ steps.old + position_cost_in stores.now (Some place) (Some period) }

@@ -8,9 +8,9 @@ use crate::random::next;
 use box_tree::{BoxTree, BoxWalk};
 use std::alloc::{AllocError, Global};
 use std::marker::Brand;
-use std::sync::ledger::{Blank, Ledger};
+use std::sync::ledger::Blank;
 use std::test::Fail;
-use step_count::Steps;
+use step_count::{Reads, Steps};
 use touching::Touching;
 use track_types::{Cell, CellBox, Lazy, Memory};
 
@@ -145,7 +145,7 @@ fn make_places(
 }
 
 // Whether a walk draws the places that a plain filter keeps, in order.
-fn does_walk_agree<L: Ledger>(made: &Made, search: Touching, steps: &mut Steps<L>) -> bool {
+fn does_walk_agree<L: Reads>(made: &Made, search: Touching, steps: &mut Steps<L>) -> bool {
     let mut walk = BoxWalk::new(&made.tree, search);
     let mut place: u32 = 0;
     for (code, area) in made.codes.iter().zip(&made.boxes) {
@@ -168,7 +168,7 @@ const GRID: CellBox = CellBox {
 };
 
 // Whether the searches of a cell and of a box agree, and those of what lies around them.
-fn do_searches_agree<L: Ledger>(
+fn do_searches_agree<L: Reads>(
     made: &Made,
     square: CellBox,
     area: CellBox,
@@ -183,7 +183,7 @@ fn do_searches_agree<L: Ledger>(
 }
 
 // Whether those of each place do.
-fn do_all_agree<L: Ledger>(host: &HostRuntime, made: &Made, blank: Blank) -> bool
+fn do_all_agree<L: Reads>(host: &HostRuntime, made: &Made, blank: Blank) -> bool
     requires name { blank.name ≡ L.name }
     requires parts { blank.parts ≡ L.parts }
     requires some { 0 < L.parts }

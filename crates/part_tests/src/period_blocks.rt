@@ -1,4 +1,5 @@
 ghost use Rattle.std.specs.Prelude.{◌≡◌, ℕ, ◌<◌, ◌≤◌, length, sum, true, IfOk, IfSome};
+ghost use Rattle.step_count.specs.Reads.{AllMay};
 ghost use Rattle.packed_bits.specs.Bits.{ones_of};
 ghost use Rattle.track_types.specs.Frame.{periods_of, IsFrame};
 ghost use Rattle.track_types.specs.declared.frame.Frame.{Frame as FrameView};
@@ -11,9 +12,9 @@ use snapshots::{Anchored, SnapFault, Snapshot};
 use std::alloc::Global;
 use std::marker::Brand;
 use std::mem::size_of;
-use std::sync::ledger::{Blank, Ledger};
+use std::sync::ledger::Blank;
 use std::test::Fail;
-use step_count::Steps;
+use step_count::{Reads, Steps};
 use track_types::{BitList, Cell, Frame, Kind, Lazy, List32, Memory, PeriodParts, Section, drawn};
 
 // The header of an index of one period of four instants, with a grid of side 4 from (0, 0).
@@ -270,7 +271,7 @@ fn told(block: Anchored) -> Block {
 }
 
 // The block that each object has, asked from the last one on.
-fn found_from_last<L: Ledger>(
+fn found_from_last<L: Reads>(
     rt: &HostRuntime,
     snapshot: &Snapshot,
     objects: u32,
@@ -280,6 +281,7 @@ fn found_from_last<L: Ledger>(
     requires name { blank.name ≡ L.name }
     requires parts { blank.parts ≡ L.parts }
     requires some { 0 < L.parts }
+    requires may { AllMay L.may }
 {
     let mut steps = Steps::<L>::new(rt, blank);
     let mut blocks = Vec::new(rt.alloc());
@@ -340,7 +342,7 @@ fn each_object_has_its_block(rt: HostRuntime) -> Result<(), Fail> {
 }
 
 // What the walks over the blocks of all leaves draw, leaf by leaf, and once more after each leaf.
-fn drawn_from_leaves<L: Ledger>(
+fn drawn_from_leaves<L: Reads>(
     rt: &HostRuntime,
     snapshot: &Snapshot,
     blank: Blank,
@@ -348,6 +350,7 @@ fn drawn_from_leaves<L: Ledger>(
     requires name { blank.name ≡ L.name }
     requires parts { blank.parts ≡ L.parts }
     requires some { 0 < L.parts }
+    requires may { AllMay L.may }
 {
     let mut steps = Steps::<L>::new(rt, blank);
     let mut blocks = Vec::new(rt.alloc());
@@ -363,7 +366,7 @@ fn drawn_from_leaves<L: Ledger>(
 }
 
 // What a walk over the blocks in squares that a rect touches draws, and once more at its end.
-fn drawn_from_rect<L: Ledger>(
+fn drawn_from_rect<L: Reads>(
     rt: &HostRuntime,
     snapshot: &Snapshot,
     touching: Touching,
@@ -372,6 +375,7 @@ fn drawn_from_rect<L: Ledger>(
     requires name { blank.name ≡ L.name }
     requires parts { blank.parts ≡ L.parts }
     requires some { 0 < L.parts }
+    requires may { AllMay L.may }
 {
     let mut steps = Steps::<L>::new(rt, blank);
     let mut walk = snapshot.objects_in(touching);

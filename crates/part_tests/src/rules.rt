@@ -1,13 +1,14 @@
 ghost use Rattle.std.specs.Prelude.{◌≡◌, ◌<◌};
+ghost use Rattle.step_count.specs.Reads.{AllMay};
 
 use crate::random::next;
 use crate::stores::{ALPHABET, MOVES, great_store_of, store_of};
 use rule_store::{Entry, RuleFault, RuleStore};
 use std::alloc::Global;
 use std::marker::Brand;
-use std::sync::ledger::{Blank, Ledger};
+use std::sync::ledger::Blank;
 use std::test::Fail;
-use step_count::Steps;
+use step_count::{Reads, Steps};
 use track_types::{MAX_PERIOD, Memory};
 
 const RULE: Option<RuleFault> = Some(RuleFault::Rule { rule: 0 });
@@ -137,7 +138,7 @@ fn told_of(store: &RuleStore, symbol: usize) -> Option<Summed> {
 }
 
 // The entries of a rule's parts, and of the stored symbol at a place, on a counter of its own.
-fn read_at<L: Ledger>(
+fn read_at<L: Reads>(
     rt: &HostRuntime,
     store: &RuleStore,
     rule: u32,
@@ -147,6 +148,7 @@ fn read_at<L: Ledger>(
     requires name { blank.name ≡ L.name }
     requires parts { blank.parts ≡ L.parts }
     requires some { 0 < L.parts }
+    requires may { AllMay L.may }
 {
     let mut steps = Steps::<L>::new(rt, blank);
     let (terminals, rules, symbols) = store.sizes();

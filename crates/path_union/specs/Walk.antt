@@ -1,8 +1,9 @@
 -- The stops of an object in two walks, as one.
-use Rattle.std.specs.Prelude.{ℕ, List, [], ◌++◌, Option, None, Some}
+use Rattle.std.specs.Prelude.{ℕ, List, [], ◌++◌, ◌||◌, Bool, false, Option, None, Some}
 use Rattle.std.specs.Option.{option_to_list}
 use Rattle.std.specs.Ordering.{int_cmp}
 use Rattle.std.specs.declared.cmp.Ordering.{Ordering}
+use Rattle.step_count.specs.Reads.{Read}
 use Rattle.track_types.specs.declared.row.Row.{Row}
 use Rattle.track_types.specs.declared.stop.Stop.{Stop}
 use Rattle.path_union.specs.Merge.{merge_of}
@@ -29,7 +30,16 @@ module _ {W : Type 0} where
   abbrev pub front_left : (W → List Stop) → Option Stop → Option W → List Stop
   front_left left ahead walk = option_to_list ahead ++ left_of left walk
 
+  -- the reads that are needed for the stops that are left of a walk
+  abbrev pub needs_of : (W → Read → Bool) → Option W → Read → Bool
+  needs_of needs None read = false
+  needs_of needs (Some walk) read = needs walk read
+
   -- what is still to be read for the stops that are left of a walk
   abbrev pub budget_of : (W → ℕ) → Option W → ℕ
   budget_of budget None = 0
   budget_of budget (Some walk) = budget walk
+
+-- the reads that are needed for the stops that are left of two walks
+abbrev pub needs_of_both : {W V : Type 0} → (W → Read → Bool) → (V → Read → Bool) → Option W → Option V → Read → Bool
+needs_of_both later older own other read = needs_of later own read || needs_of older other read

@@ -1,4 +1,5 @@
 ghost use Rattle.std.specs.Prelude.{◌≡◌, ◌+◌, ◌≤◌, None, All, IfErr, IfOk, OnOk, length};
+ghost use Rattle.step_count.specs.Reads.{AllMay};
 ghost use Rattle.gridding.specs.GridLimit.{IsGridFaultFor};
 ghost use Rattle.track_types.specs.Chart.{chart_with};
 ghost use Rattle.track_types.specs.Frame.{IsFrame};
@@ -17,8 +18,7 @@ use crate::row_drawing::{append_stops, least, path_if};
 use crate::union_walk::UnionWalk;
 use gridding::{GridFault, chart};
 use std::alloc::Global;
-use std::sync::ledger::Ledger;
-use step_count::Steps;
+use step_count::{Reads, Steps};
 use track_types::{Chart, Frame, LimitKind, Row};
 
 /// The chart of the rows of both, by the settings of a header: where both have a row of an object and an
@@ -30,7 +30,7 @@ use track_types::{Chart, Frame, LimitKind, Row};
 /// - the first quantity of the rows that passes its limit, as `gridding::chart` judges them.
 ///
 /// `Memory` may be answered to any rows. Memory is taken for the rows of the chart, and for the walks of one object.
-pub fn chart_of_both<O: Paths + Drop, P: Paths + Drop, L: Ledger>(
+pub fn chart_of_both<O: Paths + Drop, P: Paths + Drop, L: Reads>(
     alloc: Global,
     older: O,
     later: P,
@@ -40,6 +40,7 @@ pub fn chart_of_both<O: Paths + Drop, P: Paths + Drop, L: Ledger>(
     requires older { AreTimely (O.rows older) }
     requires later { AreTimely (P.rows later) }
     requires frame { IsFrame frame.now }
+    requires may { AllMay L.may }
     ensures ok { IfOk result (λ chart. chart ≡ chart_with
         (rows_of_both (O.rows older) (P.rows later)) frame.now.cell frame.now.tick frame.now.period) }
     ensures exact { OnOk result
@@ -57,7 +58,7 @@ pub fn chart_of_both<O: Paths + Drop, P: Paths + Drop, L: Ledger>(
 }
 
 // The rows of both, object by object.
-fn drawn_rows<O: Paths + Drop, P: Paths + Drop, L: Ledger>(
+fn drawn_rows<O: Paths + Drop, P: Paths + Drop, L: Reads>(
     alloc: Global,
     older: O,
     later: P,
@@ -65,6 +66,7 @@ fn drawn_rows<O: Paths + Drop, P: Paths + Drop, L: Ledger>(
 ) -> Result<Vec<Row>, GridFault>
     requires older { AreTimely (O.rows older) }
     requires later { AreTimely (P.rows later) }
+    requires may { AllMay L.may }
     ensures rows { IfOk result (λ rows. rows.items ≡ rows_of_both (O.rows older) (P.rows later)) }
     ensures timely { IfOk result (λ rows. AreTimely rows.items) }
     ensures few { IfOk result (λ rows. length rows.items ≤ limit_of LimitKind.Rows) }

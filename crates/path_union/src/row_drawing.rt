@@ -1,4 +1,5 @@
 ghost use Rattle.std.specs.Prelude.{◌≡◌, ◌⊎◌, ◌++◌, ◌+◌, ◌-◌, ◌<◌, ◌≤◌, [], ◌∷◌, None, Some, IfErr, IfNone, IfOk, IfSome, OnOk, length, map, slice_get};
+ghost use Rattle.step_count.specs.Reads.{ReadsWithin};
 ghost use Rattle.gridding.specs.GridLimit.{IsGridFaultFor};
 ghost use Rattle.track_types.specs.Limits.{limit_of};
 ghost use Rattle.path_union.specs.Fault.{count_fault};
@@ -12,8 +13,7 @@ ghost use Rattle.track_types.specs.declared.stop.Stop.{Stop as StopView};
 use crate::paths::Paths;
 use gridding::GridFault;
 use std::alloc::{AllocError, Global};
-use std::sync::ledger::Ledger;
-use step_count::Steps;
+use step_count::{Reads, Steps};
 use track_types::{LimitKind, MAX_ROWS, Row, Stop, StopWalk};
 
 /// The lesser of two objects, each of which may be missing.
@@ -64,7 +64,7 @@ pub fn path_if<P: Paths>(
 
 /// Puts the rows of an object's stops after others. It refuses more than 2^24 rows as soon as one more
 /// is drawn, and reads nothing beyond it.
-pub fn append_stops<W: StopWalk + Drop, L: Ledger>(
+pub fn append_stops<W: StopWalk + Drop, L: Reads>(
     object: u32,
     walk: W,
     rows: &mut Vec<Row>,
@@ -72,6 +72,7 @@ pub fn append_stops<W: StopWalk + Drop, L: Ledger>(
 ) -> Result<(), GridFault>
     requires few { length rows.old.items ≤ limit_of LimitKind.Rows }
     requires ascending { IsStrictlySortedBy stop_order (W.left walk) }
+    requires may { ReadsWithin (W.needs walk) L.may }
     ensures rows { OnOk result (rows.new.items ≡ rows.old.items ++ map (row_at object) (W.left walk)) }
     ensures few { OnOk result (length rows.new.items ≤ limit_of LimitKind.Rows) }
     ensures fault { IfErr result (IsGridFaultFor

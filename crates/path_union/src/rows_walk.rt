@@ -1,7 +1,6 @@
 ghost use Rattle.std.specs.Prelude.{◌≡◌};
 
-use std::sync::ledger::Ledger;
-use step_count::Steps;
+use step_count::{Reads, Steps};
 use track_types::{Lazy, Row, Stop, StopWalk};
 
 /// A walk over the stops of an object's rows, which are at hand: it makes no read.
@@ -20,7 +19,7 @@ impl<'a> RowsWalk<'a> {
 }
 
 impl<'a> Lazy for RowsWalk<'a> {
-    ghost use Rattle.std.specs.Prelude.{map};
+    ghost use Rattle.std.specs.Prelude.{false, map};
     ghost use Rattle.track_types.specs.ByFilter.{stop_of};
 
     type Item = Stop;
@@ -29,7 +28,9 @@ impl<'a> Lazy for RowsWalk<'a> {
 
     ghost budget = { λ w. 0 };
 
-    fn draw<L: Ledger>(&mut self, _steps: &mut Steps<L>) -> Option<Stop> {
+    ghost needs = { λ _ _. false };
+
+    fn draw<L: Reads>(&mut self, _steps: &mut Steps<L>) -> Option<Stop> {
         let (row, rest) = self.rows.split_first()?;
         self.rows = rest;
         Some(Stop {
@@ -42,7 +43,7 @@ impl<'a> Lazy for RowsWalk<'a> {
 impl<'a> StopWalk for RowsWalk<'a> {
     ghost reads_past = { λ w _. 0 };
 
-    fn next<L: Ledger>(&mut self, steps: &mut Steps<L>) -> Option<Stop> {
+    fn next<L: Reads>(&mut self, steps: &mut Steps<L>) -> Option<Stop> {
         self.draw(steps)
     }
 }

@@ -1,12 +1,12 @@
 ghost use Rattle.std.specs.Prelude.{◌≡◌, ◌++◌, ◌+◌, ◌≤◌, ℕ, ℤ, [], ◌∷◌, List, None, Some, IfNone, option_to_list};
+ghost use Rattle.step_count.specs.Reads.{ReadsWithin};
 ghost use Rattle.path_union.specs.Reads.{IsDrawnOnce, front_past, past_of};
-ghost use Rattle.path_union.specs.Walk.{budget_of, front_left, left_of, stops_of_both};
+ghost use Rattle.path_union.specs.Walk.{budget_of, front_left, left_of, needs_of_both, stops_of_both};
 ghost use Rattle.track_types.specs.StopWalk.{IsDrawnInTime, unless_past};
 ghost use Rattle.track_types.specs.declared.stop.Stop.{Stop as StopView};
 
 use crate::front::Front;
-use std::sync::ledger::Ledger;
-use step_count::Steps;
+use step_count::{Reads, Steps};
 use track_types::{Lazy, Stop, StopWalk};
 
 /// A walk over the stops of an object in two walks, by instant: where both have an instant, the later
@@ -32,6 +32,8 @@ impl<W: StopWalk, V: StopWalk> UnionWalk<W, V> {
             front_past W.reads_past result.later.ahead result.later.walk instant
             + front_past V.reads_past result.older.ahead result.older.walk instant
             ≡ past_of W.reads_past later instant + past_of V.reads_past older instant }
+        ensures needs { ReadsWithin (needs_of_both W.needs V.needs result.later.walk result.older.walk)
+            (needs_of_both W.needs V.needs later older) }
     {
         UnionWalk {
             later: Front::of(later),
@@ -42,7 +44,7 @@ impl<W: StopWalk, V: StopWalk> UnionWalk<W, V> {
 
 impl<W: StopWalk, V: StopWalk> Lazy for UnionWalk<W, V> {
     ghost use Rattle.std.specs.Prelude.{◌+◌};
-    ghost use Rattle.path_union.specs.Walk.{budget_of, front_left, stops_of_both};
+    ghost use Rattle.path_union.specs.Walk.{budget_of, front_left, needs_of_both, stops_of_both};
 
     type Item = Stop;
 
@@ -51,7 +53,11 @@ impl<W: StopWalk, V: StopWalk> Lazy for UnionWalk<W, V> {
 
     ghost budget = { λ w. budget_of W.budget w.later.walk + budget_of V.budget w.older.walk };
 
-    fn draw<L: Ledger>(&mut self, steps: &mut Steps<L>) -> Option<Stop>
+    ghost needs = { λ w. needs_of_both W.needs V.needs w.later.walk w.older.walk };
+
+    fn draw<L: Reads>(&mut self, steps: &mut Steps<L>) -> Option<Stop>
+        requires may { ReadsWithin
+            (needs_of_both W.needs V.needs self.old.later.walk self.old.older.walk) L.may }
         ensures found { stops_of_both
             (front_left W.left self.old.later.ahead self.old.later.walk)
             (front_left V.left self.old.older.ahead self.old.older.walk)
@@ -72,6 +78,9 @@ impl<W: StopWalk, V: StopWalk> Lazy for UnionWalk<W, V> {
             steps.old steps.new result }
         ensures later_once { IsDrawnOnce W.left self.old.later.walk self.new.later.walk }
         ensures older_once { IsDrawnOnce V.left self.old.older.walk self.new.older.walk }
+        ensures needs { ReadsWithin
+            (needs_of_both W.needs V.needs self.new.later.walk self.new.older.walk)
+            (needs_of_both W.needs V.needs self.old.later.walk self.old.older.walk) }
     {
         let later = self.later.next(steps);
         let older = self.older.next(steps);
@@ -90,7 +99,7 @@ impl<W: StopWalk, V: StopWalk> StopWalk for UnionWalk<W, V> {
         front_past W.reads_past w.later.ahead w.later.walk instant
         + front_past V.reads_past w.older.ahead w.older.walk instant };
 
-    fn next<L: Ledger>(&mut self, steps: &mut Steps<L>) -> Option<Stop> {
+    fn next<L: Reads>(&mut self, steps: &mut Steps<L>) -> Option<Stop> {
         self.draw(steps)
     }
 }

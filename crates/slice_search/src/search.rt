@@ -1,7 +1,9 @@
 ghost use Rattle.std.specs.Prelude.{◌≡◌, ◌+◌, ◌≤◌, IfOk};
+ghost use Rattle.step_count.specs.Reads.{ReadsWithin};
 ghost use Rattle.track_types.specs.ByFilter.{sightings_of};
 ghost use Rattle.track_types.specs.Near.{IsAsked};
 ghost use Rattle.track_types.specs.Region.{IsRegionAsked};
+ghost use Rattle.snapshots.specs.Needs.{needs_at};
 ghost use Rattle.snapshots.specs.Parts.{chart_in};
 ghost use Rattle.slice_search.specs.Cost.{slice_cost};
 
@@ -10,8 +12,7 @@ use crate::sought::Sought;
 use region_test::RegionTest;
 use snapshots::Stores;
 use std::alloc::Global;
-use std::sync::ledger::Ledger;
-use step_count::Steps;
+use step_count::{Reads, Steps};
 use track_types::{Memory, Sighting};
 
 /// The objects that are in the test's region at an instant, by object, each with its cell.
@@ -19,7 +20,7 @@ use track_types::{Memory, Sighting};
 /// There are none at an instant outside the index. The instant and the region's coordinates are at most
 /// `MAX_ASKED` away from 0, and its radius is at most `MAX_REACH`. `Memory` is the only refusal;
 /// nothing is allocated for a square or a block that is passed over.
-pub fn slice<L: Ledger>(
+pub fn slice<L: Reads>(
     alloc: Global,
     stores: &Stores,
     instant: i64,
@@ -28,6 +29,7 @@ pub fn slice<L: Ledger>(
 ) -> Result<Vec<Sighting>, Memory>
     requires instant { IsAsked instant }
     requires region { IsRegionAsked test.now.region }
+    requires may { ReadsWithin (needs_at stores.now.frame instant) L.may }
     ensures ok { IfOk result (λ found.
         found.items ≡ sightings_of (chart_in stores.now).rows instant test.now.region) }
     ensures cost { steps.new ≤ steps.old + slice_cost stores.now instant test.now.region }

@@ -1,4 +1,5 @@
 ghost use Rattle.std.specs.Prelude.{◌≡◌, ◌+◌, ◌<◌, ◌≤◌, ℤ, length, All};
+ghost use Rattle.step_count.specs.Reads.{is_of_log, ReadsWithin};
 ghost use Rattle.std.specs.List.{sum_by};
 ghost use Rattle.track_types.specs.declared.region.Region.{Region};
 ghost use Rattle.rule_store.specs.View.{RulesView};
@@ -26,8 +27,7 @@ use object_track::Placed;
 use region_test::RegionTest;
 use rule_store::RuleStore;
 use snapshots::Anchored;
-use std::sync::ledger::Ledger;
-use step_count::Steps;
+use step_count::{Reads, Steps};
 use track_types::Sighting;
 
 /// How many blocks are searched side by side.
@@ -42,12 +42,13 @@ pub(crate) struct Seeker {
 
 impl Seeker {
     /// The first symbol of a block's log, if the search for its object begins with it.
-    pub(crate) fn first_symbol<L: Ledger>(
+    pub(crate) fn first_symbol<L: Reads>(
         sought: &Sought,
         block: &Anchored,
         steps: &mut Steps<L>,
     ) -> Option<u32>
-        requires { IsBlock (snapshot_in sought.now.stores.now sought.now.period) block.now }
+        requires block { IsBlock (snapshot_in sought.now.stores.now sought.now.period) block.now }
+        requires may { ReadsWithin is_of_log L.may }
         ensures value { result ≡ first_in sought.now.stores.now sought.now.period sought.now.from
             block.now }
         ensures cost { steps.new ≡ steps.old + first_reads result }
@@ -58,7 +59,7 @@ impl Seeker {
 
     /// The search for the object of a block at the first instant of a window. The first symbol of its
     /// log was read before.
-    pub(crate) fn begin<L: Ledger>(
+    pub(crate) fn begin<L: Reads>(
         sought: &Sought,
         block: &Anchored,
         first: Option<u32>,
@@ -67,6 +68,7 @@ impl Seeker {
         requires block { IsBlock (snapshot_in sought.now.stores.now sought.now.period) block.now }
         requires first { first ≡ first_in sought.now.stores.now sought.now.period sought.now.from
             block.now }
+        requires may { ReadsWithin is_of_log L.may }
         ensures sound { IsSeeker (rules_in sought.now.stores.now) sought.now.from result }
         ensures seen { seen_by (rules_in sought.now.stores.now) sought.now.from
             sought.now.test.now.region result ≡ sighting_in sought.now.stores.now
@@ -100,7 +102,7 @@ impl Seeker {
 /// Goes on with all searches side by side, level by level, until each is over: what one waits for in
 /// memory comes while the others go on. A list of those that go on spares each level a look at the
 /// others.
-pub(crate) fn search_all<L: Ledger>(
+pub(crate) fn search_all<L: Reads>(
     seekers: &mut [Seeker],
     rules: &RuleStore,
     instant: i64,
@@ -109,6 +111,7 @@ pub(crate) fn search_all<L: Ledger>(
 )
     requires few { length seekers.old ≤ 16 }
     requires sound { All (IsSeeker rules.now instant) seekers.old }
+    requires may { ReadsWithin is_of_log L.may }
     ensures turned { AreTurned rules.now instant test.now.region seekers.old seekers.new }
     ensures over { sum_by rest_in seekers.new ≡ 0 }
     ensures cost { steps.new ≤ steps.old
@@ -158,7 +161,7 @@ fn judge_all(
 }
 
 // Opens the rule of each search in a list that is at one.
-fn open_all<L: Ledger>(
+fn open_all<L: Reads>(
     seekers: &mut [Seeker],
     live: &[u32; GROUP],
     count: usize,
@@ -169,6 +172,7 @@ fn open_all<L: Ledger>(
     requires few { count ≤ 16 }
     requires live { AreLive live.now count seekers.old }
     requires sound { All (IsSeeker rules.now instant) seekers.old }
+    requires may { ReadsWithin is_of_log L.may }
     ensures turned { (region : Region) → AreTurned rules.now instant region seekers.old seekers.new }
     ensures live { AreLive live.now count seekers.new }
     ensures first { 0 < count → turning_in (first_of live.now seekers.old)

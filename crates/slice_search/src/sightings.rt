@@ -1,4 +1,5 @@
 ghost use Rattle.std.specs.Prelude.{◌≡◌, ◌+◌, ◌++◌, ◌≤◌, ℤ, [], length, map, option_to_list, vec_capacity, All, IfOk, OnOk};
+ghost use Rattle.step_count.specs.Reads.{is_of_log, ReadsWithin};
 ghost use Rattle.std.specs.List.{filter_map, sum_by};
 ghost use Rattle.track_types.specs.declared.region.Region.{Region};
 ghost use Rattle.rule_store.specs.View.{RulesView};
@@ -13,19 +14,20 @@ use crate::sought::Sought;
 use arrayvec::ArrayVec;
 use snapshots::Anchored;
 use std::alloc::Global;
-use std::sync::ledger::Ledger;
-use step_count::Steps;
+use step_count::{Reads, Steps};
 use track_types::{Lazy, Memory, Sighting};
 
 // The sightings of the blocks of a walk at the first instant of a window, in the walk's order.
-pub fn sightings<W: Lazy<Item = Anchored>, L: Ledger>(
+pub fn sightings<W: Lazy<Item = Anchored>, L: Reads>(
     alloc: Global,
     sought: &Sought,
     blocks: &mut W,
     steps: &mut Steps<L>,
 ) -> Result<Vec<Sighting>, Memory>
-    requires { All (IsBlock (snapshot_in sought.now.stores.now sought.now.period))
+    requires blocks { All (IsBlock (snapshot_in sought.now.stores.now sought.now.period))
         (W.left blocks.old) }
+    requires may { ReadsWithin (W.needs blocks.old) L.may }
+    requires logs { ReadsWithin is_of_log L.may }
     ensures ok { IfOk result (λ found. found.items ≡ filter_map (sighting_in sought.now.stores.now
         sought.now.period sought.now.from sought.now.from sought.now.test.now.region)
         (W.left blocks.old)) }
@@ -47,7 +49,7 @@ pub fn sightings<W: Lazy<Item = Anchored>, L: Ledger>(
 }
 
 // Puts the sightings of some blocks at the end, in their order, and leaves none of the blocks.
-fn push_group<L: Ledger>(
+fn push_group<L: Reads>(
     sought: &Sought,
     group: &mut Vec<Anchored>,
     seekers: &mut ArrayVec<Seeker, GROUP>,
@@ -58,6 +60,7 @@ fn push_group<L: Ledger>(
     requires none { seekers.old.items ≡ [] }
     requires blocks { All (IsBlock (snapshot_in sought.now.stores.now sought.now.period))
         group.old.items }
+    requires may { ReadsWithin is_of_log L.may }
     ensures found { OnOk result (found.new.items ≡ found.old.items ++ filter_map (sighting_in
         sought.now.stores.now sought.now.period sought.now.from sought.now.from
         sought.now.test.now.region) group.old.items) }
@@ -76,7 +79,7 @@ fn push_group<L: Ledger>(
 
 // Begins the searches of some blocks. Each log stands somewhere else in memory, so the first symbols of
 // all of them are read before the first is looked at: then all are on their way at once.
-fn begin_all<L: Ledger>(
+fn begin_all<L: Reads>(
     sought: &Sought,
     group: &[Anchored],
     seekers: &mut ArrayVec<Seeker, GROUP>,
@@ -86,6 +89,7 @@ fn begin_all<L: Ledger>(
     requires none { seekers.old.items ≡ [] }
     requires blocks { All (IsBlock (snapshot_in sought.now.stores.now sought.now.period))
         group.now }
+    requires may { ReadsWithin is_of_log L.may }
     ensures sound { All (IsSeeker (rules_in sought.now.stores.now) sought.now.from)
         seekers.new.items }
     ensures seen { filter_map (seen_by (rules_in sought.now.stores.now) sought.now.from
@@ -102,7 +106,7 @@ fn begin_all<L: Ledger>(
 }
 
 // The first symbols of the logs of some blocks, as far as the searches begin with them.
-fn first_symbols<L: Ledger>(
+fn first_symbols<L: Reads>(
     sought: &Sought,
     group: &[Anchored],
     steps: &mut Steps<L>,
@@ -110,6 +114,7 @@ fn first_symbols<L: Ledger>(
     requires few { length group.now ≤ 16 }
     requires blocks { All (IsBlock (snapshot_in sought.now.stores.now sought.now.period))
         group.now }
+    requires may { ReadsWithin is_of_log L.may }
     ensures value { result.items ≡ map (first_in sought.now.stores.now sought.now.period
         sought.now.from) group.now }
     ensures cost { steps.new ≡ steps.old + sum_by (first_reads_in sought.now.stores.now
@@ -123,7 +128,7 @@ fn first_symbols<L: Ledger>(
 }
 
 // Begins the searches of some blocks with these first symbols, one straight after another.
-fn begin_each<L: Ledger>(
+fn begin_each<L: Reads>(
     sought: &Sought,
     group: &[Anchored],
     firsts: &[Option<u32>],
@@ -136,6 +141,7 @@ fn begin_each<L: Ledger>(
         group.now }
     requires firsts { firsts.now ≡ map (first_in sought.now.stores.now sought.now.period
         sought.now.from) group.now }
+    requires may { ReadsWithin is_of_log L.may }
     ensures sound { All (IsSeeker (rules_in sought.now.stores.now) sought.now.from)
         seekers.new.items }
     ensures seen { filter_map (seen_by (rules_in sought.now.stores.now) sought.now.from
@@ -154,13 +160,14 @@ fn begin_each<L: Ledger>(
 }
 
 // Puts what some searches come to at the end, in their order, and leaves none of them.
-fn push_seen<L: Ledger>(
+fn push_seen<L: Reads>(
     sought: &Sought,
     seekers: &mut ArrayVec<Seeker, GROUP>,
     found: &mut Vec<Sighting>,
     steps: &mut Steps<L>,
 ) -> Result<(), Memory>
-    requires { All (IsSeeker (rules_in sought.now.stores.now) sought.now.from) seekers.old.items }
+    requires sound { All (IsSeeker (rules_in sought.now.stores.now) sought.now.from) seekers.old.items }
+    requires may { ReadsWithin is_of_log L.may }
     ensures found { OnOk result (found.new.items ≡ found.old.items ++ filter_map (seen_by
         (rules_in sought.now.stores.now) sought.now.from sought.now.test.now.region)
         seekers.old.items) }

@@ -1,9 +1,11 @@
 ghost use Rattle.std.specs.Prelude.{◌≡◌, ◌+◌, ◌<◌, ◌≤◌, length, IfOk};
+ghost use Rattle.step_count.specs.Reads.{is_of_log, is_of_period, ReadsWithin};
 ghost use Rattle.std.specs.List.{sum_by};
 ghost use Rattle.track_types.specs.Frame.{periods_of};
 ghost use Rattle.track_types.specs.Region.{intersects_region};
 ghost use Rattle.snapshots.specs.Parts.{snapshot_in};
 ghost use Rattle.snapshots.specs.Sound.{IsBlock};
+ghost use Rattle.snapshots.specs.TrackWalk.{tracks_needs};
 ghost use Rattle.slice_search.specs.Cost.{period_search_cost};
 ghost use Rattle.slice_search.specs.Reach.{may_reach};
 ghost use Rattle.slice_search.specs.Sought.{first_stop_in, latest_in, log_reads, AreSought};
@@ -15,8 +17,7 @@ use object_track::Placed;
 use region_test::RegionTest;
 use snapshots::{Anchored, Stores, Tracks};
 use std::alloc::Global;
-use std::sync::ledger::Ledger;
-use step_count::Steps;
+use step_count::{Reads, Steps};
 use track_types::{Memory, Stop};
 
 /// What is sought in one period: the objects that are in a region at some instant of a window, and
@@ -54,6 +55,7 @@ impl<'a> Sought<'a> {
             ≤ period_search_cost self.now.stores.now self.now.period self.now.from self.now.to
             self.now.test.now.region
             (latest_in self.now.stores.now.frame self.now.period self.now.to) }
+        ensures needs { ReadsWithin (tracks_needs result) (is_of_period self.now.period) }
     {
         let latest = latest_of(self.stores.frame(), self.period, self.to);
         let reach = Reach::new(self.stores, self.period, latest, self.test);
@@ -61,13 +63,14 @@ impl<'a> Sought<'a> {
     }
 
     /// The first stop of a block in the window and the region. `Memory` is the only refusal.
-    pub fn first_stop<L: Ledger>(
+    pub fn first_stop<L: Reads>(
         &self,
         alloc: Global,
         block: &Anchored,
         steps: &mut Steps<L>,
     ) -> Result<Option<Stop>, Memory>
-        requires { IsBlock (snapshot_in self.now.stores.now self.now.period) block.now }
+        requires block { IsBlock (snapshot_in self.now.stores.now self.now.period) block.now }
+        requires may { ReadsWithin is_of_log L.may }
         ensures value { IfOk result (λ found. found ≡ first_stop_in self.now.stores.now
             self.now.period self.now.from self.now.to self.now.test.now.region block.now) }
         ensures object { block.now.index < length self.now.stores.now.objects }

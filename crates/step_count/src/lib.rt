@@ -7,8 +7,10 @@
 
 mod counted_list;
 mod one_read;
+mod reads;
 mod steps;
 
 pub use counted_list::CountedList;
 pub use one_read::OneRead;
+pub use reads::Reads;
 pub use steps::Steps;

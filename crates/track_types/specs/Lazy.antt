@@ -1,7 +1,8 @@
 -- What contracts see of the items of a walk as an iterator.
-use Rattle.std.specs.Prelude.{◌≡◌, ℕ, ◌+◌, ◌≤◌, List, Option}
+use Rattle.std.specs.Prelude.{◌≡◌, ℕ, ◌+◌, ◌≤◌, Bool, List, Option}
 use Rattle.std.specs.Borrow.{GName}
 use Rattle.std.specs.Iterator.{Yields, YieldsFirst}
+use Rattle.step_count.specs.Reads.{Read, ReadsWithin}
 use Rattle.track_types.specs.declared.lazy.drawn_items.Drawn.{Drawn}
 
 module _ {W L : Type 0} where
@@ -21,11 +22,16 @@ module _ {W L : Type 0} where
   abbrev pub drawn_left : {A : Type 0} → (W → List A) → Drawn W L → List A
   drawn_left left items = left (drawn_walk items)
 
-  module _ {A : Type 0} (left : W → List A) (budget : W → ℕ) where
+  -- what a draw of the walk needs may be read
+  abbrev pub MayDraw : (W → Read → Bool) → (Read → Bool) → Drawn W L → Type 0
+  MayDraw needs may items = ReadsWithin (needs (drawn_walk items)) may
+
+  module _ {A : Type 0} (left : W → List A) (budget : W → ℕ) (needs : W → Read → Bool) where
     -- from old to new the reads are taken from the walk's budget, and the walk and the counter are the same ones
     pub record DrawsWithin (old new : Drawn W L) : Type 0 where
       pub cost : drawn_steps new + budget (drawn_walk new) ≤ drawn_steps old + budget (drawn_walk old)
       pub lenders : drawn_lenders new ≡ drawn_lenders old
+      pub within : ReadsWithin (needs (drawn_walk new)) (needs (drawn_walk old))
 
     -- a call of `next` gave the first of the items that are left, or none is left
     abbrev pub DrawsFirst : Drawn W L → Option A → Drawn W L → Type 0

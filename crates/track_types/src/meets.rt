@@ -1,4 +1,5 @@
 ghost use Rattle.std.specs.Prelude.{◌≡◌, ◌+◌, ◌≤◌, IfOk};
+ghost use Rattle.step_count.specs.Reads.{ReadsWithin};
 ghost use Rattle.track_types.specs.Meeting.{meeting_of};
 ghost use Rattle.track_types.specs.Near.{IsAsked};
 ghost use Rattle.track_types.specs.declared.limit.TheConstants.{MAX_REACH};
@@ -8,8 +9,7 @@ use crate::answerer::Answerer;
 use crate::meeting::Meeting;
 use crate::memory::Memory;
 use std::alloc::Global;
-use std::sync::ledger::Ledger;
-use step_count::Steps;
+use step_count::{Reads, Steps};
 
 /// An answerer that also tells when two objects first met.
 pub trait Meets: Answerer {
@@ -17,7 +17,7 @@ pub trait Meets: Answerer {
     /// each other, and their cells. `None` if and only if there is no such instant, as for an unknown object. A
     /// distance is that of the centres of cells: its square is at most the square of `reach`, which is at most
     /// `MAX_REACH`. One object with itself is its first row in the window.
-    fn meet<L: Ledger>(
+    fn meet<L: Reads>(
         self,
         alloc: Global,
         left: u32,
@@ -30,6 +30,7 @@ pub trait Meets: Answerer {
         requires from { IsAsked from }
         requires to { IsAsked to }
         requires reach { reach ≤ MAX_REACH }
+        requires may { ReadsWithin (Self.needs self (asked.Meet left right from to reach)) L.may }
         ensures ok { IfOk result (λ found. found
             ≡ meeting_of (Self.chart self).rows left right from to reach) }
         ensures cost { steps.new

@@ -1,10 +1,10 @@
 ghost use Rattle.std.specs.Prelude.{◌≡◌, ◌++◌, ◌+◌, ◌≤◌, ℕ, ℤ, [], IfNone, option_to_list};
+ghost use Rattle.step_count.specs.Reads.{ReadsWithin};
 ghost use Rattle.track_types.specs.StopWalk.{IsDrawnInTime};
 
 use crate::lazy::Lazy;
 use crate::stop::Stop;
-use std::sync::ledger::Ledger;
-use step_count::Steps;
+use step_count::{Reads, Steps};
 
 /// A `Lazy` over stops whose reads are also bounded where it is left early.
 ///
@@ -14,10 +14,12 @@ pub trait StopWalk: Lazy<Item = Stop> {
 
     /// Takes the first stop of `left` off and answers it, or `None` if and only if `left` is empty. It
     /// takes no memory.
-    fn next<L: Ledger>(&mut self, steps: &mut Steps<L>) -> Option<Stop>
+    fn next<L: Reads>(&mut self, steps: &mut Steps<L>) -> Option<Stop>
+        requires may { ReadsWithin (Self.needs self.old) L.may }
         ensures found { Self.left self.old ≡ option_to_list result ++ Self.left self.new }
         ensures none { IfNone result (Self.left self.old ≡ []) }
         ensures cost { steps.new + Self.budget self.new ≤ steps.old + Self.budget self.old }
         ensures in_time { IsDrawnInTime (reads_past self.old) (reads_past self.new)
-            steps.old steps.new result };
+            steps.old steps.new result }
+        ensures needs { ReadsWithin (Self.needs self.new) (Self.needs self.old) };
 }

@@ -9,9 +9,9 @@ use crate::touching::Touching;
 use k2_tree::{K2Tree, cell_at};
 use std::alloc::{AllocError, Global};
 use std::marker::Brand;
-use std::sync::ledger::{Blank, Ledger};
+use std::sync::ledger::Blank;
 use std::test::Fail;
-use step_count::Steps;
+use step_count::{Reads, Steps};
 use track_types::{Cell, Lazy};
 
 // A tree is built of at most so many cells.
@@ -69,7 +69,7 @@ fn place_in(cells: &[Cell], cell: Cell) -> Option<usize> {
 }
 
 // Whether each leaf has the cell at its place in the list, and is found from it.
-fn do_leaf_cells_agree<L: Ledger>(tree: &K2Tree, cells: &[Cell], steps: &mut Steps<L>) -> bool {
+fn do_leaf_cells_agree<L: Reads>(tree: &K2Tree, cells: &[Cell], steps: &mut Steps<L>) -> bool {
     for leaf in 0..tree.leaves() {
         let cell = tree.leaf_cell(leaf, steps);
         if tree.leaf_of(cell, steps) != Some(leaf)
@@ -82,7 +82,7 @@ fn do_leaf_cells_agree<L: Ledger>(tree: &K2Tree, cells: &[Cell], steps: &mut Ste
 }
 
 // Whether each cell has its leaf, from one left of the grid and below it up to another, which may lie beyond it.
-fn do_leaves_of_cells_agree<L: Ledger>(
+fn do_leaves_of_cells_agree<L: Reads>(
     tree: &K2Tree,
     cells: &[Cell],
     far: i64,
@@ -100,7 +100,7 @@ fn do_leaves_of_cells_agree<L: Ledger>(
 }
 
 // Whether the leaves that a walk draws are those whose cells the region has.
-fn does_walk_agree<L: Ledger>(
+fn does_walk_agree<L: Reads>(
     tree: &K2Tree,
     cells: &[Cell],
     touching: Touching,
@@ -132,7 +132,7 @@ const RECTS: [[i32; 4]; 5] = [
 const DISCS: [(i32, i32, u32); 4] = [(42, 11, 0), (42, 11, 9), (0, -30, 40), (-7, 60, 20)];
 
 // Whether the walks over the leaves of all rects and discs agree.
-fn do_walks_agree<L: Ledger>(tree: &K2Tree, cells: &[Cell], steps: &mut Steps<L>) -> bool
+fn do_walks_agree<L: Reads>(tree: &K2Tree, cells: &[Cell], steps: &mut Steps<L>) -> bool
     requires { All (IsInGrid tree.now.height BASE) cells.now }
 {
     for [x1, y1, x2, y2] in RECTS {
@@ -149,7 +149,7 @@ fn do_walks_agree<L: Ledger>(tree: &K2Tree, cells: &[Cell], steps: &mut Steps<L>
 }
 
 // Whether all agree, over steps of its own.
-fn does_all_agree<L: Ledger>(
+fn does_all_agree<L: Reads>(
     host: &HostRuntime,
     tree: &K2Tree,
     cells: &[Cell],

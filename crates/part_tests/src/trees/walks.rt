@@ -6,16 +6,16 @@ use crate::touching::Touching;
 use k2_tree::{K2Tree, Square};
 use std::alloc::{AllocError, Global};
 use std::marker::Brand;
-use std::sync::ledger::{Blank, Ledger};
+use std::sync::ledger::Blank;
 use std::test::Fail;
-use step_count::Steps;
+use step_count::{Reads, Steps};
 use track_types::{Cell, Lazy, Memory, drawn};
 
 // A leaf with its cell.
 type Leaf = (u32, Cell);
 
 // What a walk over the leaves that a rect touches draws, leaf by leaf, and after them.
-fn three_drawn<L: Ledger>(
+fn three_drawn<L: Reads>(
     tree: &K2Tree,
     steps: &mut Steps<L>,
 ) -> (Option<Leaf>, Option<Leaf>, bool) {
@@ -27,7 +27,7 @@ fn three_drawn<L: Ledger>(
 }
 
 // The leaves that a rect touches, by a walk as an iterator.
-fn leaves_drawn<L: Ledger>(
+fn leaves_drawn<L: Reads>(
     alloc: Global,
     tree: &K2Tree,
     steps: &mut Steps<L>,
@@ -37,7 +37,7 @@ fn leaves_drawn<L: Ledger>(
 }
 
 // The first leaf of three cells that a far rect touches. It reads nothing that is counted.
-fn far_leaf<L: Ledger>(alloc: Global, steps: &mut Steps<L>) -> Result<Option<(u32, Cell)>, Memory>
+fn far_leaf<L: Reads>(alloc: Global, steps: &mut Steps<L>) -> Result<Option<(u32, Cell)>, Memory>
     ensures none { IfOk result (λ found. found ≡ None) }
     ensures cost { steps.new ≤ steps.old }
 {
@@ -53,7 +53,7 @@ fn bounds(square: &Square) -> (i64, i64, i64, i64) {
 }
 
 // Whether a walk leads from the whole grid by the first child's last child to a cell, beside a child and none.
-fn is_led_to_a_leaf<L: Ledger>(tree: &K2Tree, steps: &mut Steps<L>) -> bool {
+fn is_led_to_a_leaf<L: Reads>(tree: &K2Tree, steps: &mut Steps<L>) -> bool {
     let Some(whole) = tree.root() else {
         return false;
     };
@@ -75,7 +75,7 @@ fn is_led_to_a_leaf<L: Ledger>(tree: &K2Tree, steps: &mut Steps<L>) -> bool {
     is_last_child_a_leaf(tree, &first, steps)
 }
 
-fn is_last_child_a_leaf<L: Ledger>(tree: &K2Tree, first: &Square, steps: &mut Steps<L>) -> bool
+fn is_last_child_a_leaf<L: Reads>(tree: &K2Tree, first: &Square, steps: &mut Steps<L>) -> bool
     requires of { IsSquareOf tree.now first.now }
     requires inner { 1 ≤ level_of first.now }
 {
@@ -92,7 +92,7 @@ fn is_last_child_a_leaf<L: Ledger>(tree: &K2Tree, first: &Square, steps: &mut St
 const AREAS: [(i64, i64, i64, i64); 3] = [(0, 0, 3, 3), (4, 0, 7, 3), (12, 12, 15, 15)];
 
 // Whether a square has so many children in all, and these areas are those of its children there.
-fn has_children<L: Ledger>(
+fn has_children<L: Reads>(
     tree: &K2Tree,
     square: &Square,
     fan: u32,
@@ -114,7 +114,7 @@ fn has_children<L: Ledger>(
 }
 
 // A root that is split in sixteen, and one of its children, which is split in four.
-fn is_wide_root_walked<L: Ledger>(tree: &K2Tree, steps: &mut Steps<L>) -> bool {
+fn is_wide_root_walked<L: Reads>(tree: &K2Tree, steps: &mut Steps<L>) -> bool {
     let Some(whole) = tree.root() else {
         return false;
     };
@@ -128,7 +128,7 @@ fn is_wide_root_walked<L: Ledger>(tree: &K2Tree, steps: &mut Steps<L>) -> bool {
 }
 
 // The same over a tree and steps of its own.
-fn wide_root_walked<L: Ledger>(host: &HostRuntime, blank: Blank) -> Result<bool, Memory>
+fn wide_root_walked<L: Reads>(host: &HostRuntime, blank: Blank) -> Result<bool, Memory>
     requires name { blank.name ≡ L.name }
     requires parts { blank.parts ≡ L.parts }
     requires some { 0 < L.parts }
@@ -144,7 +144,7 @@ fn wide_root_walked<L: Ledger>(host: &HostRuntime, blank: Blank) -> Result<bool,
 }
 
 // Whether three cells are walked over steps of their own.
-fn are_walked<L: Ledger>(host: &HostRuntime, tree: &K2Tree, blank: Blank) -> Result<bool, Memory>
+fn are_walked<L: Reads>(host: &HostRuntime, tree: &K2Tree, blank: Blank) -> Result<bool, Memory>
     requires name { blank.name ≡ L.name }
     requires parts { blank.parts ≡ L.parts }
     requires some { 0 < L.parts }

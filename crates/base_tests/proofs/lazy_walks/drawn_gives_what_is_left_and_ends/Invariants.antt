@@ -1,4 +1,4 @@
 use Rattle.base_tests.proofs.lazy_walks.drawn_gives_what_is_left_and_ends.Given as goal
 
-abbrev pub ghosts-numbers_drawn : goal.ghosts-numbers_drawn
-ghosts-numbers_drawn g a = record { name = a.blank.name; parts = a.blank.parts }
+abbrev pub ghosts-numbers_drawn-L-Ledger : goal.ghosts-numbers_drawn-L-Ledger
+ghosts-numbers_drawn-L-Ledger g a = record { name = a.blank.name; parts = a.blank.parts }

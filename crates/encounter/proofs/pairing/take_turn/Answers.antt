@@ -30,8 +30,8 @@ neither true true more less = less
 neither true false more less = sym (more refl)
 neither false other more less = refl
 
-pub open-requires : goal.open-requires
-open-requires g c = sym c.node-one.ensures.opens ∙ c.opens_first.ensures.yes c.if-opens_first.true
+pub open-requires-clause-rule : goal.open-requires-clause-rule
+open-requires-clause-rule g c = sym c.node-one.ensures.opens ∙ c.opens_first.ensures.yes c.if-opens_first.true
 
 pub returns-then-window-one : goal.returns-then-window-one
 returns-then-window-one g c =

@@ -32,6 +32,8 @@ drawn-preserved-then-there-here g c =
     record {
       walked = drawn-right _ _ _ _ _ _ _ _ _ _ c.drawn.invariant.walked early _ _ _ _ c.in_ok-there-2.ensures.found
           (omega (arith, c.next-then-there-here.ensures.cost));
+      may = c.drawn.invariant.may;
+      also = λ read needed. c.drawn.invariant.also read (c.in_ok-there-2.ensures.needs read needed);
       in_time = in_time-right _ _ _ _ _ _ _ c.drawn.invariant.in_time _ _ _ early c.in_ok-there-2.ensures.in_time;
     }
 
@@ -65,6 +67,8 @@ drawn-preserved g c =
     (omega (arith, c.next-in-drawn.ensures.cost)) in
     record {
       walked = now;
+      may = λ read needed. c.drawn.invariant.may read (c.in_ok-here-2.ensures.needs read needed);
+      also = c.drawn.invariant.also;
       in_time = in_time-left _ _ _ _ _ _ _ c.drawn.invariant.in_time _ _ _
           (next-after _ _ _ _ c.drawn.invariant.walked.left_is c.in_ok-here-2.ensures.found) c.in_ok-here-2.ensures.in_time;
     }
@@ -74,6 +78,8 @@ drawn-init g c =
     record {
       walked = drawn-both _ _ _ _ _ _ _ _ _ _ c.requires.one c.requires.other c.in_ok-here.ensures.found
           c.in_ok-there.ensures.found (omega (arith, c.in_ok-here.ensures.cost, c.in_ok-there.ensures.cost));
+      may = λ read needed. c.requires.may read (c.in_ok-here.ensures.needs read needed);
+      also = λ read needed. c.requires.also read (c.in_ok-there.ensures.needs read needed);
       in_time = in_time-both _ _ _ _ _ _ _ _ _ c.in_ok-here.ensures.in_time c.in_ok-there.ensures.in_time;
     }
 

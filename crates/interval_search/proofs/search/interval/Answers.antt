@@ -1,10 +1,14 @@
-use Rattle.std.proofs.Common.{◌≡◌, ◌+◌, ◌-◌, ◌<◌, ◌≤◌, ◌∙◌, ℕ, ℤ, List, Bool, false, length, w64, to_z, of_z, arith, ap, sym, subst}
+use Rattle.std.proofs.Common.{◌≡◌, ◌+◌, ◌-◌, ◌<◌, ◌≤◌, ◌∙◌, ℕ, ℤ, List, Bool, IsTrue, false, true, length, w64, to_z, of_z, arith, ap, sym, subst}
 use Rattle.std.specs.Prelude.{replicate}
 use Rattle.std.proofs.lemmas.Int.{ints}
+use Rattle.step_count.specs.Reads.{ofPeriod}
 use Rattle.track_types.specs.ByFilter.{hits_of}
+use Rattle.track_types.specs.declared.frame.Frame.{Frame}
 use Rattle.track_types.specs.declared.hit.Hit.{Hit}
 use Rattle.track_types.specs.declared.region.Region.{Region}
 use Rattle.track_types.specs.Region.{intersects_region}
+use Rattle.snapshots.proofs.NeedsLemmas.{within-logs, within-period}
+use Rattle.snapshots.specs.IndexCost.{is_met}
 use Rattle.snapshots.specs.Parts.{chart_in}
 use Rattle.snapshots.specs.SoundParts.{IsValid}
 use Rattle.track_types.specs.Frame.{grid_of}
@@ -12,7 +16,9 @@ use Rattle.interval_search.specs.Cost.{interval_cost}
 use Rattle.interval_search.specs.FirstHits.{AreFirst}
 use Rattle.interval_search.proofs.CostLemmas.{cost-met, cost-step}
 use Rattle.interval_search.proofs.OrderLemmas.{first-at, hits-beside, hits-met}
+use Rattle.interval_search.proofs.search.interval.Given.{Over}
 use Rattle.interval_search.proofs.search.interval.Goals as goal
+use Rattle.interval_search.proofs.search.interval.Goals.{After-blocks-blocks}
 
 pub returns-then-not-meets_grid-clause-ok : goal.returns-then-not-meets_grid-clause-ok
 returns-then-not-meets_grid-clause-ok g c =
@@ -33,6 +39,7 @@ loop-period-init g c =
     let next : ℕ = c.met-periods.result.next in
     let begins = first-at parts valid low high region next c.met-periods.result.end c.met-periods.ensures in
     record {
+      least = omega arith;
       most = c.met-periods.ensures.ordered;
       first = subst (λ known. AreFirst parts low high region next known c.in_ok-hits.hits.found.items)
           (sym (c.in_ok-hits.ensures.known ∙ ap (λ n. replicate n false) c.objects.ensures.value))
@@ -47,6 +54,28 @@ invariant_of-sought g c = record { known = omega (arith, c.loop-period-test.true
 pub look-requires-clause-first : goal.look-requires-clause-first
 look-requires-clause-first g c = c.loop-period.invariant.first
 
+-- the period is met by the window, so that it may be read
+allowed : (g : Over) (c : After-blocks-blocks g) → IsTrue (g.L.Reads.may (ofPeriod c.loop-period.period))
+allowed g c =
+    let frame : Frame = c.args.stores.now.frame in
+    let low : ℤ = to_z w64 (of_z w64 c.args.from) in
+    let high : ℤ = to_z w64 (of_z w64 c.args.to) in
+    let from : low ≡ c.args.from = omega (arith, ints) in
+    let to : high ≡ c.args.to = omega (arith, ints) in
+    let met : is_met frame low high c.loop-period.period ≡ true =
+    c.met-periods.ensures.met c.loop-period.period c.loop-period.invariant.least (omega (arith, c.loop-period-test.true)) in
+    c.requires.may (ofPeriod c.loop-period.period)
+    (subst (λ z. is_met frame c.args.from z c.loop-period.period ≡ true) to
+    (subst (λ z. is_met frame z high c.loop-period.period ≡ true) from met))
+
+pub look-requires-clause-may : goal.look-requires-clause-may
+look-requires-clause-may g c = λ read needed.
+    within-period g.L.Reads.may c.loop-period.period (allowed g (goal.at.look-requires-clause-may g c).After-blocks-blocks) read
+    (c.blocks-blocks.ensures.needs read needed)
+
+pub look-requires-clause-logs : goal.look-requires-clause-logs
+look-requires-clause-logs g c = within-logs g.L.Reads.may _ c.requires.may
+
 pub loop-period-preserved : goal.loop-period-preserved
 loop-period-preserved g c =
     let parts = c.args.stores.now in
@@ -54,6 +83,7 @@ loop-period-preserved g c =
     let low : ℤ = to_z w64 (of_z w64 c.args.from) in
     let high : ℤ = to_z w64 (of_z w64 c.args.to) in
     record {
+      least = omega (arith, c.loop-period.invariant.least);
       most = omega (arith, c.loop-period-test.true);
       first = c.in_ok-look.ensures.first;
       reads = omega (

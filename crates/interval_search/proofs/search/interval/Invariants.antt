@@ -6,6 +6,7 @@ use Rattle.interval_search.proofs.search.interval.Given as goal
 
 abbrev pub invariant-loop-period : goal.invariant-loop-period
 invariant-loop-period g l = record {
+  least : l.initial.period ≤ l.period;
   most : l.period ≤ l.period-end;
   first : AreFirst l.fn.stores l.fn.from l.fn.to l.fn.test.region l.period l.hits.known.items l.hits.found.items;
   reads : l.steps + sum_by (window_cost l.fn.stores l.fn.from l.fn.to l.fn.test.region)

@@ -35,6 +35,7 @@ loop-row-init g c =
       end = drawn.end;
       up = drawn-rises c.args.test.now.region drawn c.requires.ascending;
       near = c.requires.near;
+      may = λ read needed. c.requires.may read (c.draw_in-hit.ensures.needs read needed);
       reads = c.draw_in-hit.ensures.cost;
     }
 
@@ -80,6 +81,7 @@ loop-row-preserved-then-stands_at g c =
       end = drawn.end;
       up = drawn-rises region drawn up;
       near = All-tail near c.in-Some.row (rows_in c.take_first.new.self) (subst (All near) (split g at) c.loop-row.invariant.near);
+      may = λ read needed. c.loop-row.invariant.may read (c.draw_in-hit-then-stands_at.ensures.needs read needed);
       reads = omega (arith, c.draw_in-hit-then-stands_at.ensures.cost, c.loop-row.invariant.reads);
     }
 
@@ -97,6 +99,7 @@ loop-row-preserved g c =
       end = c.loop-row.invariant.end;
       up = c.loop-row.invariant.up;
       near = All-tail near c.in-Some.row (rows_in c.take_first.new.self) (subst (All near) (split g at) c.loop-row.invariant.near);
+      may = c.loop-row.invariant.may;
       reads = c.loop-row.invariant.reads;
     }
 

@@ -6,6 +6,8 @@ use Rattle.track_types.specs.Near.{IsCellWithin}
 use Rattle.track_types.specs.Region.{in_region}
 use Rattle.track_types.specs.declared.row.Row.{Row}
 use Rattle.track_types.specs.declared.stop.Stop.{Stop}
+use Rattle.step_count.specs.Reads.{ReadsWithin}
+use Rattle.track_index.specs.Path.{path_needs}
 use Rattle.live_tail.specs.SmallRows.{rows_in}
 use Rattle.live_tail.specs.Walk.{stop_order, stops_with}
 use Rattle.live_tail.proofs.interval.first_of_both.Given as goal
@@ -19,6 +21,7 @@ invariant-loop-row g l = record {
   end : IfNone l.hit (l.walk.stops ≡ []);
   up : IsStrictlySortedBy stop_order (option_to_list l.hit ++ l.walk.stops);
   near : All (λ (row : Row). IsCellWithin row.cell) (rows_in l.rest);
+  may : ReadsWithin (path_needs l.walk) g.L.Reads.may;
   reads : l.steps + l.walk.reads ≤ l.fn.steps + l.fn.walk.reads;
 }
 

@@ -1,5 +1,5 @@
 use Rattle.std.proofs.Common.{◌≡◌, ◌++◌, ◌+◌, ◌-◌, ◌^◌, ◌≤◌, ℕ, ℤ, List, filter, length, map, min, to_z, of_z, w64, sym, ap, subst, ◌∙◌, arith, rules}
-use Rattle.std.specs.Prelude.{not}
+use Rattle.std.specs.Prelude.{not, IsTrue}
 use Rattle.std.specs.List.Sorted.{IsPermutation, IsSorted}
 use Rattle.std.proofs.lemmas.Fn.{filter_same}
 use Rattle.std.proofs.lemmas.Int.{ints}
@@ -51,6 +51,12 @@ spent g c =
       cost-some (g.A.Answerer.cost c.args.answerer) (rows_of_tail c.args.tail.now) c.args.count c.args.instant c.args.cell
           (omega (arith, c.if-count-eq0.false)),
     )
+
+pub nearest-requires-clause-may : goal.nearest-requires-clause-may
+nearest-requires-clause-may g c =
+    let same : to_z w64 (of_z w64 c.args.instant) ≡ c.args.instant = omega (arith, ints) in
+    λ read needed. c.requires.may c.raised_count-raised.result read
+    (subst (λ z. IsTrue (g.A.Answerer.needs c.args.answerer (asked.Nearest c.raised_count-raised.result z c.args.cell) read)) same needed)
 
 pub returns-in_err-found-clause-cost : goal.returns-in_err-found-clause-cost
 returns-in_err-found-clause-cost g c = spent g (goal.at.returns-in_err-found-clause-cost g c).After-nearest

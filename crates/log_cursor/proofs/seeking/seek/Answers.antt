@@ -28,7 +28,7 @@ loop-i-init g c =
     let sound : AreRules rules = subst AreRules c.rules-rules.ensures c.sizes.ensures.sound in
     let late : c.args.start.instant <ℤ word c.args.instant = omega (arith, ints, c.if-instant-start.false) in
     seeking-first rules (log_of c.args.view) c.args.start (word c.args.instant) c.args.steps.now
-    (IsWayOf-placed rules c.args.start (log_of c.args.view) sound (length-log_of c.args.view sound) c.requires) late
+    (IsWayOf-placed rules c.args.start (log_of c.args.view) sound (length-log_of c.args.view sound) c.requires.placed) late
 
 -- the symbol that was read
 reading : (g : Over) (c : After-entry-entry g) → IsReading c.args.view.rules.now (log_of c.args.view) c.args.start
@@ -55,6 +55,7 @@ cell_within-requires g c =
       way = seeking-way its;
       after = c.loop-i.invariant.after;
       within = omega (arith, ints, leads, c.if-instant-next.true);
+      may = c.requires.may;
     })
 
 pub returns-then-instant-next-clause-value : goal.returns-then-instant-next-clause-value

@@ -7,6 +7,7 @@ use Rattle.track_types.specs.declared.cell.Cell.{Cell}
 use Rattle.snapshots.specs.Parts.{chart_in, period_in}
 use Rattle.snapshots.specs.SoundParts.{IsValid}
 use Rattle.object_track.proofs.MetLemmas.{period_in-some}
+use Rattle.snapshots.proofs.NeedsLemmas.{may-found, within-logs}
 use Rattle.nearest_search.specs.Cost.{nearest_cost, period_near_cost}
 use Rattle.nearest_search.proofs.OutsideLemmas.{cost-some, nears-blockless, nears-outside, nears-unasked}
 use Rattle.nearest_search.proofs.search.nearest.Given.{Over}
@@ -68,8 +69,19 @@ nearest-requires-clause-search g c =
         kept = c.in-Some-kept.ensures.kept;
         asked = subst IsCellAsked (sym c.new-2.ensures.cell) c.requires.cell;
       };
+      number = c.in-Some-kept.ensures.period;
       width = c.new-2.ensures.width;
     }
+
+pub nearest-requires-clause-may : goal.nearest-requires-clause-may
+nearest-requires-clause-may g c =
+    let same : to_z w64 (of_z w64 c.args.instant) ≡ c.args.instant = omega (arith, ints) in
+    let is = (when g (goal.at.nearest-requires-clause-may g c).In-Some).0 in
+    may-found g.L.Reads.may _ c.in-Some.period (subst (λ z. period_in c.args.stores.now.frame z ≡ Some c.in-Some.period) same is)
+    c.requires.may
+
+pub nearest-requires-clause-logs : goal.nearest-requires-clause-logs
+nearest-requires-clause-logs g c = within-logs g.L.Reads.may _ c.requires.may
 
 pub returns-clause-cost : goal.returns-clause-cost
 returns-clause-cost g c =

@@ -1,4 +1,4 @@
 use Rattle.part_tests.proofs.period_blocks.are_found.Given as goal
 
-abbrev pub ghosts-found_from_last : goal.ghosts-found_from_last
-ghosts-found_from_last a = record { name = a.blank.name; parts = a.blank.parts }
+abbrev pub ghosts-found_from_last-L-Ledger : goal.ghosts-found_from_last-L-Ledger
+ghosts-found_from_last-L-Ledger a = record { name = a.blank.name; parts = a.blank.parts }

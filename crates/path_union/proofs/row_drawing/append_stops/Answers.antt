@@ -41,5 +41,6 @@ loop-stop-preserved g c =
       stops = stops ∙ sym (append_assoc drawn (stop ∷ []) left);
       all = c.in_ok-push_row.ensures ∙ again;
       few = omega (arith, ap length c.in_ok-push_row.ensures, length-append c.loop-stop.rows.items (row_at c.args.object stop ∷ []), c.if-len-ge-MAX_ROWS.false, c.len.ensures);
+      may = λ read needed. c.loop-stop.invariant.may read (c.in-Some.ensures.needs read needed);
       cost = omega (arith, drew, c.loop-stop.invariant.cost);
     }

@@ -1,5 +1,6 @@
 use Rattle.std.proofs.Common.{◌≡◌, ◌++◌, ◌+◌, ◌-◌, ◌≤◌, List, length, map}
 use Rattle.std.specs.Prelude.{slice_get}
+use Rattle.step_count.specs.Reads.{ReadsWithin}
 use Rattle.track_types.specs.Limits.{limit_of}
 use Rattle.track_types.specs.declared.limit.LimitKind.TheVariants.{Rows}
 use Rattle.track_types.specs.declared.stop.Stop.{Stop}
@@ -14,6 +15,7 @@ invariant-loop-stop g l = record {
   stops : g.W.Lazy.left l.fn.walk ≡ drawn ++ g.W.Lazy.left l.walk;
   all : l.rows.items ≡ l.fn.rows.items ++ map (row_at l.object) drawn;
   few : length l.rows.items ≤ limit_of Rows;
+  may : ReadsWithin (g.W.Lazy.needs l.walk) g.L.Reads.may;
   cost : l.steps + up_to (λ (stop : Stop). g.W.StopWalk.reads_past l.walk stop.instant) (g.W.Lazy.budget l.walk)
       (slice_get (g.W.Lazy.left l.fn.walk) (limit_of Rows - length l.fn.rows.items))
       ≤ l.fn.steps + up_to (λ (stop : Stop). g.W.StopWalk.reads_past l.fn.walk stop.instant) (g.W.Lazy.budget l.fn.walk)

@@ -1,9 +1,11 @@
-use Rattle.std.proofs.Common.{◌≡◌, ◌+◌, ◌<◌, ◌≤◌, None, Some, w64, to_z, of_z, ap, sym, subst, ◌∙◌, arith, rules}
+use Rattle.std.proofs.Common.{◌≡◌, ◌+◌, ◌<◌, ◌≤◌, IsTrue, None, Some, w64, to_z, of_z, ap, sym, subst, ◌∙◌, arith, rules}
 use Rattle.std.proofs.lemmas.Int.{ints}
 use Rattle.std.proofs.lemmas.List.Sorted.{IsNonDecreasingBy-from_sort_by_key}
+use Rattle.step_count.specs.Reads.{ofPeriod}
 use Rattle.track_types.specs.Frame.{periods_of}
 use Rattle.snapshots.specs.Parts.{period_in}
 use Rattle.snapshots.specs.SoundParts.{IsValid}
+use Rattle.snapshots.proofs.NeedsLemmas.{may-found, within-logs, within-period}
 use Rattle.object_track.proofs.MetLemmas.{period_in-some}
 use Rattle.slice_search.specs.Cost.{period_search_cost, slice_cost}
 use Rattle.slice_search.specs.Sightings.{AreSightings}
@@ -24,6 +26,18 @@ within g c =
 
 pub invariant_of-sought : goal.invariant_of-sought
 invariant_of-sought g c = record { known = within g (goal.at.invariant_of-sought g c).In-Some }
+
+-- which may be read
+allowed : (g : Over) (c : In-Some g) → IsTrue (g.L.Reads.may (ofPeriod c.in-Some.period))
+allowed g c = may-found g.L.Reads.may _ c.in-Some.period (when g c) c.requires.may
+
+pub sightings-requires-clause-may : goal.sightings-requires-clause-may
+sightings-requires-clause-may g c = λ read needed.
+    within-period g.L.Reads.may c.in-Some.period (allowed g (goal.at.sightings-requires-clause-may g c).In-Some) read
+    (c.blocks-blocks.ensures.needs read needed)
+
+pub sightings-requires-clause-logs : goal.sightings-requires-clause-logs
+sightings-requires-clause-logs g c = within-logs g.L.Reads.may _ c.requires.may
 
 -- the reads of the search in the period
 reads : (g : Over) (c : After-sightings g)

@@ -19,8 +19,8 @@ bounds-seekers-i g c = c.loop-k.invariant.live.below c.loop-k.k c.loop-k-test.tr
 pub bounds-seekers-i-in-loop-k : goal.bounds-seekers-i-in-loop-k
 bounds-seekers-i-in-loop-k g c = c.loop-k.invariant.live.below c.loop-k.k c.loop-k-test.true
 
-pub opened-requires : goal.opened-requires
-opened-requires g c =
+pub opened-requires-clause-sound : goal.opened-requires-clause-sound
+opened-requires-clause-sound g c =
     c.loop-k.invariant.sound (slice_index c.args.live.now c.loop-k.k) blank
     (c.loop-k.invariant.live.below c.loop-k.k c.loop-k-test.true)
 

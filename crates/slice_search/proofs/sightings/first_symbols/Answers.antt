@@ -6,8 +6,8 @@ use Rattle.slice_search.specs.Seekers.{first_in, first_reads_in}
 use Rattle.slice_search.proofs.HitLemmas.{no_block}
 use Rattle.slice_search.proofs.sightings.first_symbols.Goals as goal
 
-pub first_symbol-requires : goal.first_symbol-requires
-first_symbol-requires g c = c.requires.blocks c.loop-i.i no_block (omega (arith, c.loop-i-test.true))
+pub first_symbol-requires-clause-block : goal.first_symbol-requires-clause-block
+first_symbol-requires-clause-block g c = c.requires.blocks c.loop-i.i no_block (omega (arith, c.loop-i-test.true))
 
 pub loop-i-preserved : goal.loop-i-preserved
 loop-i-preserved g c =

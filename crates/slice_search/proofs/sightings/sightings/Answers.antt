@@ -51,6 +51,7 @@ loop-block-preserved-in-Continue-branch-2 g c =
           c.push_group.new.found.items) (sym none) next;
       few = omega (arith, ap length pushed.empty);
       room = omega (arith, its.room, c.push_reserved.ensures.capacity, pushed.room);
+      may = λ read needed. its.may read (c.in-Some.ensures.needs read needed);
       idle = pushed.none;
       reads = omega (
         arith,

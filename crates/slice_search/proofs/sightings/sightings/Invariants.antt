@@ -1,5 +1,6 @@
 use Rattle.std.proofs.Common.{◌≡◌, ◌+◌, ◌++◌, ◌<◌, ◌≤◌, [], length, vec_capacity}
 use Rattle.std.specs.List.{sum_by}
+use Rattle.step_count.specs.Reads.{ReadsWithin}
 use Rattle.slice_search.specs.Sought.{log_reads}
 use Rattle.slice_search.proofs.WalkLemmas.{IsWalking}
 use Rattle.slice_search.proofs.sightings.sightings.Given as goal
@@ -15,6 +16,7 @@ invariant-loop-block g l =
           (l.group.items ++ g.W.Lazy.left l.blocks) l.found.items;
       few : length l.group.items < 16;
       room : 16 ≤ vec_capacity l.group;
+      may : ReadsWithin (g.W.Lazy.needs l.blocks) g.L.Reads.may;
       idle : l.seekers.items ≡ [];
       reads : l.steps + (g.W.Lazy.budget l.blocks + sum_by (log_reads parts number instant instant region)
           (l.group.items ++ g.W.Lazy.left l.blocks))

@@ -10,7 +10,7 @@ invariant_of-self-2 g c =
     let is : IsSide old.pending old.at (Some entry) = subst (IsSide old.pending old.at) c.in-Some.is c.self.invariant in
     let view = view-is old.pending old.at old.top (Some entry) c.args.self.now c.in-Some.is c.self.view_is in
     opened-is old.pending c.open.new.self c.next.new.self old.at entry c.in-Some-next.left is
-    (opens-rule old.pending old.at entry c.args.self.now view c.requires) c.open.ensures.rules c.open.ensures.symbols
+    (opens-rule old.pending old.at entry c.args.self.now view c.requires.rule) c.open.ensures.rules c.open.ensures.symbols
     c.in-Some-next.ensures.found c.next.ensures.rules c.next.ensures.sound
 
 pub returns-clause-opened : goal.returns-clause-opened
@@ -21,5 +21,5 @@ returns-clause-opened g c =
     let view = view-is old.pending old.at old.top (Some entry) c.args.self.now c.in-Some.is c.self.view_is in
     subst (λ side. OpensNode side (side_of c.next.new.self old.at (Some c.in-Some-next.left))) view
     (opened-to old.pending c.open.new.self c.next.new.self old.at entry c.in-Some-next.left is
-    (opens-rule old.pending old.at entry c.args.self.now view c.requires) c.open.ensures.rules c.open.ensures.symbols
+    (opens-rule old.pending old.at entry c.args.self.now view c.requires.rule) c.open.ensures.rules c.open.ensures.symbols
     c.in-Some-next.ensures.found c.next.ensures.rules c.next.ensures.sound)

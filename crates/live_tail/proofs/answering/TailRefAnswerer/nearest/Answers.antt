@@ -1,5 +1,6 @@
 use Rattle.std.proofs.Common.{◌≡◌, ◌≤◌, ◌+◌, ℤ, List, Option, to_z, of_z, w64, ap, sym, subst, ◌∙◌, arith}
-use Rattle.std.specs.Prelude.{IfOk}
+use Rattle.std.specs.Prelude.{IfOk, IsTrue}
+use Rattle.snapshots.specs.Needs.{needs_at}
 use Rattle.std.proofs.lemmas.Int.{ints}
 use Rattle.track_types.specs.ByFilter.{nears_of}
 use Rattle.track_types.specs.Chart.{ChartView}
@@ -21,6 +22,15 @@ nearest-requires-clause-few g c =
     let its : Parts = c.view-view.result.index.now in
     let valid : IsValid its = subst IsValid (sym c.view-view.ensures) c.stores.ensures.valid in
     omega (arith, rows_at-few its valid (to_z w64 (of_z w64 c.args.instant)), valid.shaped.few)
+
+pub nearest-requires-clause-may : goal.nearest-requires-clause-may
+nearest-requires-clause-may g c =
+    let at : ℤ = c.args.instant in
+    let same : to_z w64 (of_z w64 c.args.instant) ≡ at = omega (arith, ints) in
+    let its : c.view-view.result.index.now ≡ c.args.self.tailed.now.parts = c.view-view.ensures ∙ c.index-index.ensures in
+    λ wanted read needed. c.requires.may read
+    (subst (λ (p : Parts). IsTrue (needs_at p.frame at read)) its
+    (subst (λ z. IsTrue (needs_at c.view-view.result.index.now.frame z read)) same needed))
 
 pub returns-clause-ok : goal.returns-clause-ok
 returns-clause-ok g c =

@@ -1,5 +1,7 @@
 use Rattle.std.proofs.Common.{◌≡◌, ◌≤◌, ◌+◌, ℕ, ℤ, Option, filter, to_z, of_z, w64, ap, sym, subst, ◌∙◌, arith}
+use Rattle.std.specs.Prelude.{IsTrue}
 use Rattle.std.proofs.lemmas.Int.{ints}
+use Rattle.snapshots.specs.Needs.{needs_between}
 use Rattle.track_types.specs.ByFilter.{is_row_between, path_of}
 use Rattle.track_types.specs.Chart.{ChartView}
 use Rattle.track_types.specs.Row.{IsAscending}
@@ -55,6 +57,20 @@ returns-clause-budget c =
     (subst (λ z. c.in_ok-walk.walk.reads ≤ cost_of c.view-index.result.index.now (Path c.args.object from z)) high
     (subst (λ z. c.in_ok-walk.walk.reads ≤ cost_of c.view-index.result.index.now (Path c.args.object z (to_z w64 (of_z w64 c.args.to)))) low
     c.in_ok-walk.ensures.budget))))
+
+-- nor do they need a read, and the index's walk needs what the window does
+pub returns-clause-needs : goal.returns-clause-needs
+returns-clause-needs c =
+    let from : ℤ = c.args.from in
+    let to : ℤ = c.args.to in
+    let low : to_z w64 (of_z w64 c.args.from) ≡ from = omega (arith, ints) in
+    let high : to_z w64 (of_z w64 c.args.to) ≡ to = omega (arith, ints) in
+    let its : c.view-index.result.index.now ≡ c.args.self.tailed.now.parts = c.view-index.ensures ∙ c.index.ensures in
+    λ read needed.
+    subst (λ (p : Parts). IsTrue (needs_between p.frame from to read)) its
+    (subst (λ z. IsTrue (needs_between c.view-index.result.index.now.frame from z read)) high
+    (subst (λ z. IsTrue (needs_between c.view-index.result.index.now.frame z (to_z w64 (of_z w64 c.args.to)) read)) low
+    (c.in_ok-walk.ensures.needs read (c.of.ensures.needs read needed))))
 
 -- the tail's rows cost nothing until then, and the index's walk costs what it does without them
 pub returns-clause-in_time : goal.returns-clause-in_time

@@ -1,4 +1,5 @@
 use Rattle.std.proofs.Common.{◌≡◌, ◌≤◌, ℤ, List, All, Some, filter, to_z, of_z, w64, ap, sym, subst, ◌∙◌, arith, rules}
+use Rattle.std.specs.Prelude.{IsTrue}
 use Rattle.std.specs.Option.{option_map}
 use Rattle.std.proofs.lemmas.Int.{ints}
 use Rattle.log_cursor.specs.Touching.{first_among}
@@ -12,6 +13,8 @@ use Rattle.live_tail.specs.SmallRows.{rows_in}
 use Rattle.std.specs.List.Sorted.{IsStrictlySortedBy}
 use Rattle.std.proofs.lemmas.List.Elements.{All-filter, All-same}
 use Rattle.track_types.specs.declared.question.Question.TheVariants.{Path}
+use Rattle.track_types.specs.declared.frame.Frame.{Frame}
+use Rattle.snapshots.specs.Needs.{needs_between}
 use Rattle.snapshots.specs.Parts.{chart_in}
 use Rattle.track_index.specs.Cost.{cost_of}
 use Rattle.live_tail.specs.Walk.{stop_order, stops_with}
@@ -55,6 +58,18 @@ first_of_both-requires-clause-ascending g c =
     subst (IsStrictlySortedBy stop_order) (sym c.in_ok-walk.ensures.left)
     (path-rises (chart_in self.index.index.now).rows c.requires.table.ascending c.args.object (to_z w64 (of_z w64 self.from))
     (to_z w64 (of_z w64 self.to)))
+
+-- the walk needs what the window does
+pub first_of_both-requires-clause-may : goal.first_of_both-requires-clause-may
+first_of_both-requires-clause-may g c =
+    let self = c.args.self.now in
+    let frame : Frame = self.index.index.now.frame in
+    let low : to_z w64 (of_z w64 self.from) ≡ self.from = omega (arith, ints) in
+    let high : to_z w64 (of_z w64 self.to) ≡ self.to = omega (arith, ints) in
+    λ read needed. c.requires.may read
+    (subst (λ z. IsTrue (needs_between frame self.from z read)) high
+    (subst (λ z. IsTrue (needs_between frame z (to_z w64 (of_z w64 self.to)) read)) low
+    (c.in_ok-walk.ensures.needs read needed)))
 
 pub returns-in_default-clause-ok : goal.returns-in_default-clause-ok
 returns-in_default-clause-ok g c =

@@ -1,4 +1,5 @@
-use Rattle.std.proofs.Common.{◌≡◌, ap, subst, sym, ◌∙◌, arith}
+use Rattle.std.proofs.Common.{◌≡◌, ap, refl, subst, sym, ◌∙◌, arith}
+use Rattle.step_count.specs.Reads.{ofRule}
 use Rattle.rule_store.specs.Flaws.{left_of, right_of}
 use Rattle.log_cursor.specs.Descent.{IsStage, IsTouching, hit_from, reads_from, stage_turning, stage_weight}
 use Rattle.log_cursor.proofs.DescentLemmas.{hit-parts, parted}
@@ -10,12 +11,12 @@ use Rattle.log_cursor.proofs.descent.Descent.opened.Goals.{After-parts, In-Touch
 -- where its rule is
 touching_is : (g : Over) (c : In-Touching g) →
     IsTouching c.args.rules.now c.args.self.at c.args.instant c.in-Touching.rule
-touching_is g c = subst (IsStage c.args.rules.now c.args.self.at c.args.instant) c.in-Touching.is c.requires
+touching_is g c = subst (IsStage c.args.rules.now c.args.self.at c.args.instant) c.in-Touching.is c.requires.sound
 
 pub parts-requires : goal.parts-requires
 parts-requires g c =
     let its = touching_is g (goal.at.parts-requires g c).In-Touching in
-    record { rule = its.rule; within = its.within.known }
+    record { rule = its.rule; within = its.within.known; may = c.requires.may (ofRule c.in-Touching.rule) refl }
 
 -- the parts that were read
 both : (g : Over) (c : After-parts g) →

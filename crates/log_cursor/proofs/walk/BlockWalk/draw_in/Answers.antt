@@ -1,6 +1,8 @@
 use Rattle.std.proofs.Common.{◌≡◌, ◌+◌, ◌≤◌, [], None, Some, refl, subst, sym, ◌∙◌, arith}
-use Rattle.std.specs.Option.{option_to_list}
+use Rattle.std.specs.Option.{IfSome, option_to_list}
 use Rattle.std.proofs.lemmas.Int.{ints}
+use Rattle.track_types.specs.Near.{IsCellAsked}
+use Rattle.track_types.specs.declared.stop.Stop.{Stop}
 use Rattle.rule_store.proofs.NodeLemmas.{opened_count-none}
 use Rattle.log_cursor.specs.Touching.{IsDrawnIn, first_among, start_of}
 use Rattle.log_cursor.specs.Walk.{WalkView, opened_left, stops_left}
@@ -23,6 +25,19 @@ anchor_outside g c = elim c.match-take.branch [
       rw some (rw outside refl)
   | in_default w ↦ let none : c.self.inside.anchor ≡ None = sym c.take.ensures.value ∙ w.in_default.is in rw none refl
 ]
+
+-- the anchor is near enough to be compared
+pub holds-requires : goal.holds-requires
+holds-requires g c =
+    let asked : IsCellAsked c.in-Some.stop.cell =
+    subst (λ anchor. IfSome anchor (λ (stop : Stop). IsCellAsked stop.cell)) (sym c.take.ensures.value ∙ c.in-Some.is)
+    c.self.invariant.near in
+    record {
+      near = record {
+        x = record { low = omega (arith, ints, asked.x.low); high = omega (arith, ints, asked.x.high) };
+        y = record { low = omega (arith, ints, asked.y.low); high = omega (arith, ints, asked.y.high) };
+      };
+    }
 
 pub invariant_of-self-in_default-found : goal.invariant_of-self-in_default-found
 invariant_of-self-in_default-found g c =

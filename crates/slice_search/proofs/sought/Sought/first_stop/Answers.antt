@@ -24,7 +24,7 @@ pub returns-clause-object : goal.returns-clause-object
 returns-clause-object g c =
     let self = c.args.self.now in
     let valid : IsValid self.stores.now = record { shaped = c.frame.ensures.shaped; sound = c.frame.ensures.sound } in
-    block-known self.stores.now valid self.period self.known c.args.block.now c.requires
+    block-known self.stores.now valid self.period self.known c.args.block.now c.requires.block
 
 pub returns-clause-cost : goal.returns-clause-cost
 returns-clause-cost g c =
