@@ -1,4 +1,4 @@
-ghost use Rattle.std.specs.Prelude.{◌≡◌, ◌+◌, ◌*◌, ◌/◌, ◌%◌, ◌^◌, ◌<◌, ◌≤◌, ℕ, nat_lt, nat_le, length, take, drop, IfOk};
+ghost use Rattle.std.specs.Prelude.{◌≡◌, ◌+◌, ◌*◌, ◌/◌, ◌%◌, ◌^◌, ◌<◌, ◌≤◌, ℕ, nat_lt, nat_le, length, take, drop, IfOk, true};
 ghost use Rattle.packed_bits.specs.Bits.{ones_of, window_of};
 ghost use Rattle.bit_stream.specs.Bytes.{bits_in, IsInside};
 ghost use Rattle.bit_stream.specs.Numbers.{low_in, zeros_in, number_in};
@@ -63,10 +63,15 @@ impl<'a> BitReader<'a> {
 
     /// The number that says itself how long it is, at most `2^56 - 2`. It is `Large` where more than five
     /// bits 0 come first or it has too many digits, and else `Short` where the bits end within it.
+    // A caller's own error is made in its place, and not one that is handed on.
+    #[inline(always)]
     pub fn number(&mut self) -> Result<u64, BitFault>
         ensures exact { Takes result self.new (number_in self.old) }
         ensures within { IfOk result (λ value. value + 2 ≤ 2 ^ 56) }
     {
+        if !self.is_long() {
+            return self.long_number();
+        }
         let word = self.window();
         let zeros = word.trailing_zeros();
         if zeros > MAX_ZEROS {
@@ -74,7 +79,7 @@ impl<'a> BitReader<'a> {
         }
         let digits = (1 << zeros) + ((word >> (zeros + 1)) % (1 << zeros)) as u32;
         let length = 2 * zeros + digits;
-        if length > MAX_WIDTH || !self.has(length) {
+        if length > MAX_WIDTH {
             return self.long_number();
         }
         self.skip(length);
@@ -101,6 +106,7 @@ impl<'a> BitReader<'a> {
     }
 
     // The same number, a piece at a time, wherever it may end.
+    #[inline(never)]
     fn long_number(&mut self) -> Result<u64, BitFault>
         ensures exact { Takes result self.new (number_in self.old) }
         ensures within { IfOk result (λ value. value + 2 ≤ 2 ^ 56) }
@@ -130,12 +136,19 @@ impl<'a> BitReader<'a> {
         Ok(zeros)
     }
 
+    // Whether a whole word of bytes is left, which has any bits that are read at once.
+    fn is_long(&self) -> bool
+        ensures { result ≡ true → 56 ≤ length self.now }
+    {
+        self.bytes.len() >= 8
+    }
+
     // Whether so many bits are left.
     fn has(&self, count: u32) -> bool
         requires { count ≤ 56 }
         ensures { result ≡ nat_le count (length self.now) }
     {
-        self.bytes.len() >= (self.used + count).div_ceil(8) as usize
+        self.is_long() || self.bytes.len() >= (self.used + count).div_ceil(8) as usize
     }
 
     // The next bits as a number, lowest first: at least 57, or those that are left.

@@ -1,7 +1,7 @@
 -- Building: what one number more after ascending ones changes in a level's bits, whatever its fan.
 use Rattle.std.proofs.Common.{◌≡◌, ℕ, zero, suc, ◌+◌, ◌-◌, ◌*◌, ◌/◌, ◌%◌, ◌^◌, ◌<◌, ◌≤◌, ◌==◌, ◌||◌, Bool, true, false}
 use Rattle.std.proofs.Common.{List, [], ◌∷◌, ◌++◌, length, map, take, get_or, refl, sym, ap, ◌∙◌, inl, inr, arith}
-use Rattle.std.proofs.Common.{subst, replicate}
+use Rattle.std.proofs.Common.{subst, replicate, if◌then◌else◌}
 use Rattle.std.proofs.Common.{length-append, append_assoc, append-nil}
 use Rattle.std.specs.List.{range_with_len}
 use Rattle.std.proofs.Math.Nat.{div-add-mod, mod-lt}
@@ -14,7 +14,7 @@ use Rattle.std.proofs.lemmas.Bool.Decides.{nat_tests}
 use Rattle.std.proofs.lemmas.List.Folds.{list_any-append}
 use Rattle.k2_tree.specs.Widths.{fan_of, digits_in}
 use Rattle.k2_tree.specs.TreeBits.{is_in, prefixes, Rises, level_bits, children_of_prefixes, morton_bits}
-use Rattle.k2_tree.specs.Building.{levels_bits, room}
+use Rattle.k2_tree.specs.Building.{levels_bits}
 use Rattle.k2_tree.specs.Groups.{upper_squares}
 use Rattle.k2_tree.specs.Widths.{levels_with, widths_of}
 use Rattle.k2_tree.proofs.LevelLemmas.{bits_above-same, length-levels_bits, morton_bits-parted}
@@ -23,6 +23,14 @@ use Rattle.k2_tree.proofs.MortonLemmas.{two_bits}
 use Rattle.k2_tree.proofs.RisingLemmas.{Rises-place}
 use Rattle.k2_tree.proofs.PrefixLemmas.{any-prefixes, by_test, once_from, prefixes-rise, fan_pos}
 use Rattle.k2_tree.proofs.LongerLemmas.{div-pow_add, length-children_of_prefixes, get_or-children_of_prefixes, children_of_prefixes-rises, prefixes-shorter}
+
+-- the places of a square whose first number is the i-th and whose prefix drops so many digits; none where the number
+-- before is in the square too
+abbrev pub room : ℕ → ℕ → List ℕ → ℕ → List Bool
+room size above codes zero = replicate size false
+room size above codes (suc i) =
+    (if get_or codes i 0 / 2 ^ (2 * above) == get_or codes (suc i) 0 / 2 ^ (2 * above)
+    then [] else replicate size false)
 
 -- the last of a number and those after it
 abbrev last_of : ℕ → List ℕ → ℕ

@@ -24,8 +24,11 @@ mod ParentLemmas
 mod OnLemmas
 mod WayLemmas
 mod ClimbLemmas
+mod SpreadLemmas
 -- Building.
 mod BuildingLemmas
+mod PushingLemmas
+mod GroupBitsLemmas
 -- Checking.
 mod CheckingLemmas
 mod UpperLemmas

@@ -7,7 +7,6 @@ use Rattle.std.specs.Int.RustNames.{unsigned_abs}
 use Rattle.track_types.specs.declared.cell.Cell.{Cell}
 use Rattle.track_types.specs.declared.limit.TheConstants.{MAX_HEIGHT}
 use Rattle.k2_tree.specs.Morton.{interleaved, morton_row, morton_column, morton_of, cell_of, IsInGrid}
-use Rattle.k2_tree.specs.TreeBits.{code_limit}
 
 -- a digit less
 pub div-pow_suc : (k x n : ℕ) → x / k ^ n / k ≡ x / k ^ suc n
@@ -43,15 +42,7 @@ morton_row-half (suc n) code =
 pub morton_row-lt : (n code : ℕ) → morton_row n code < 2 ^ n
 morton_row-lt n code = omega (arith, morton_row-half n code, morton_column-lt n (code / 2))
 
--- as many digits as the greatest grid has, or fewer, are below the limit of all
-pub interleaved-small : (height level row column code : ℕ) → height ≤ MAX_HEIGHT
-    → code ≡ interleaved (height - level) (row / 2 ^ level) (column / 2 ^ level) → code < code_limit
-interleaved-small height level row column code few is =
-    let fewer : height - level ≤ MAX_HEIGHT = omega arith in
-    let most : 4 ^ (height - level) ≤ 4 ^ MAX_HEIGHT = pow-le-pow_right {n = 4} (lit< tt) fewer in
-    omega (arith, is, interleaved-lt (height - level) (row / 2 ^ level) (column / 2 ^ level))
-
--- and a column of so many is small
+-- a column of no more digits than the greatest grid has is small
 pub morton_column-small : (height level code column : ℕ) → height ≤ MAX_HEIGHT
     → column ≡ morton_column (height - level) (code / 4 ^ level) → column < 2 ^ MAX_HEIGHT
 morton_column-small height level code column few is =
@@ -59,19 +50,7 @@ morton_column-small height level code column few is =
     let most : 2 ^ (height - level) ≤ 2 ^ MAX_HEIGHT = pow-le-pow_right {n = 2} (lit< tt) fewer in
     omega (arith, is, morton_column-lt (height - level) (code / 4 ^ level))
 
--- a digit more, as a loop that goes down to level 0 meets it
-pub interleaved-down : (height level row column code : ℕ) → 0 < level → level ≤ height
-    → code ≡ interleaved (height - level) (row / 2 ^ level) (column / 2 ^ level)
-    → 4 * code + 2 * (row / 2 ^ (level - 1) % 2) + column / 2 ^ (level - 1) % 2
-    ≡ interleaved (height - (level - 1)) (row / 2 ^ (level - 1)) (column / 2 ^ (level - 1))
-unfolding interleaved
-interleaved-down height zero row column code some within is = absurd (omega arith)
-interleaved-down height (suc n) row column code some within is =
-    let i : suc n - 1 ≡ n = omega arith in
-    let e : height - n ≡ suc (height - suc n) = omega arith in
-    rw (i, e, div-pow_suc 2 row n, div-pow_suc 2 column n) (omega (arith, is))
-
--- and one of a column
+-- a digit of a column more, as a loop that goes down to level 0 meets it
 pub morton_column-down : (height level code column : ℕ) → 0 < level → level ≤ height
     → column ≡ morton_column (height - level) (code / 4 ^ level)
     → 2 * column + code / 2 ^ (2 * (level - 1)) % 4 % 2 ≡ morton_column (height - (level - 1)) (code / 4 ^ (level - 1))
@@ -84,11 +63,6 @@ morton_column-down height (suc n) code column some within is =
     rw (i, e, div-pow_suc 4 code n) (omega (arith, is, digit))
 
 -- at level 0 nothing was left away
-pub interleaved-whole : (height row column : ℕ)
-    → interleaved (height - 0) (row / 2 ^ 0) (column / 2 ^ 0) ≡ interleaved height row column
-interleaved-whole height row column =
-    let e : height - 0 ≡ height = omega arith in rw (e, div-one row, div-one column) refl
-
 pub morton_column-whole : (height code : ℕ) → morton_column (height - 0) (code / 4 ^ 0) ≡ morton_column height code
 morton_column-whole height code = let e : height - 0 ≡ height = omega arith in rw (e, div-one code) refl
 

@@ -1,10 +1,11 @@
-ghost use Rattle.std.specs.Prelude.{◌≡◌, ◌+◌, ◌-◌, ◌*◌, ◌/◌, ◌%◌, ◌<◌, ◌≤◌, ◌++◌, length, slice_index, IfOk, OnOk};
-ghost use Rattle.k2_tree.specs.Widths.{levels_with, widths_of};
+ghost use Rattle.std.specs.Prelude.{◌≡◌, ◌+◌, ◌-◌, ◌*◌, ◌/◌, ◌%◌, ◌^◌, ◌<◌, ◌≤◌, ◌++◌, length, slice_index, IfOk, OnOk};
+ghost use Rattle.k2_tree.specs.Widths.{fan_of, levels_with, widths_of};
 ghost use Rattle.k2_tree.specs.TreeBits.{Rises, level_bits, morton_bits};
 ghost use Rattle.k2_tree.specs.Groups.{upper_squares};
-ghost use Rattle.k2_tree.specs.Building.{levels_bits, room};
+ghost use Rattle.k2_tree.specs.Building.{levels_bits};
 ghost use Rattle.track_types.specs.declared.limit.TheConstants.{MAX_HEIGHT, MAX_OBJECTS};
 
+use crate::group_bits::GroupBits;
 use crate::groups::fan_of;
 use std::alloc::Global;
 use track_types::{BitList, Memory};
@@ -44,17 +45,16 @@ pub fn split_by_codes(
     ensures upper { IfOk result (λ made. made.1 ≡ upper_squares height wide codes.now) }
 {
     let low = height - 2 * wide;
-    let mut bits = Vec::new(alloc);
+    let mut bits = GroupBits::new(alloc);
     push_levels(&mut bits, codes, 2, wide, low)?;
     let upper = bits.len() / 16;
     push_levels(&mut bits, codes, 1, low, 0)?;
-    let list = BitList::pack(alloc, bits.as_slice())?;
-    Ok((list, upper as u32))
+    Ok((bits.into_list()?, upper))
 }
 
 // Pushes so many levels of one width. The squares of the last have `below` digits below them.
 fn push_levels(
-    bits: &mut Vec<bool>,
+    bits: &mut GroupBits,
     codes: &[u64],
     width: u32,
     levels: u32,
@@ -64,8 +64,9 @@ fn push_levels(
     requires low { width * levels + below ≤ MAX_HEIGHT }
     requires some { 1 ≤ width }
     requires narrow { width ≤ 2 }
-    ensures ok { OnOk result (bits.new.items
-        ≡ bits.old.items ++ levels_bits (levels_with width levels) below codes.now) }
+    requires whole { length bits.old % fan_of width ≡ 0 }
+    ensures ok { OnOk result (bits.new
+        ≡ bits.old ++ levels_bits (levels_with width levels) below codes.now) }
 {
     for level in (0..levels).rev() {
         push_level(bits, codes, width, width * level + below)?;
@@ -73,40 +74,38 @@ fn push_levels(
     Ok(())
 }
 
-// Pushes the level of this width whose squares have `level` digits below them.
-fn push_level(bits: &mut Vec<bool>, codes: &[u64], width: u32, level: u32) -> Result<(), Memory>
+// Pushes the level of this width whose squares have `level` digits below them: a group for each
+// longer prefix, which is ready where the next one begins.
+fn push_level(bits: &mut GroupBits, codes: &[u64], width: u32, level: u32) -> Result<(), Memory>
     requires ascending { Rises 0 codes.now }
     requires low { width + level ≤ MAX_HEIGHT }
     requires narrow { width ≤ 2 }
-    ensures ok { OnOk result (bits.new.items ≡ bits.old.items ++ level_bits width level codes.now) }
+    requires whole { length bits.old % fan_of width ≡ 0 }
+    ensures ok { OnOk result (bits.new ≡ bits.old ++ level_bits width level codes.now) }
 {
-    let fan = fan_of(width);
-    for i in 0..codes.len() {
-        make_room(bits, codes, i, width + level, fan)?;
-        let digit = (codes[i] >> (2 * level)) % u64::from(fan);
-        let place = bits.len() - fan as usize + digit as usize;
-        bits[place] = true;
+    if codes.is_empty() {
+        return Ok(());
     }
+    let fan = fan_of(width);
+    let above = 2 * (width + level);
+    let mut group = child_bit(codes[0], level, fan);
+    for i in 1..codes.len() {
+        if codes[i - 1] >> above != codes[i] >> above {
+            bits.push(group, fan)?;
+            group = 0;
+        }
+        group |= child_bit(codes[i], level, fan);
+    }
+    bits.push(group, fan)?;
     Ok(())
 }
 
-// Pushes the group of a square, whose prefix drops `above` digits, where the number at a place is the
-// first of it.
-fn make_room(
-    bits: &mut Vec<bool>,
-    codes: &[u64],
-    i: usize,
-    above: u32,
-    fan: u32,
-) -> Result<(), Memory>
-    requires within { i < length codes.now }
-    requires low { above ≤ MAX_HEIGHT }
-    ensures ok { OnOk result (bits.new.items ≡ bits.old.items ++ room fan above codes.now i) }
+// The bit of the child in which a number is, in the group of its square.
+fn child_bit(code: u64, level: u32, fan: u32) -> u64
+    requires low { level ≤ MAX_HEIGHT }
+    requires some { 1 ≤ fan }
+    requires few { fan ≤ 16 }
+    ensures { result ≡ 2 ^ (code / 4 ^ level % fan) }
 {
-    let digits = 2 * above;
-    if i > 0 && codes[i - 1] >> digits == codes[i] >> digits {
-        return Ok(());
-    }
-    bits.resize(bits.len() + fan as usize, false)?;
-    Ok(())
+    1 << ((code >> (2 * level)) % u64::from(fan))
 }

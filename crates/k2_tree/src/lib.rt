@@ -11,6 +11,7 @@ mod checking;
 mod climb;
 mod descent;
 mod fault;
+mod group_bits;
 mod groups;
 mod keep;
 mod listing;

@@ -59,14 +59,35 @@ fn offset(place: i64, base: i64) -> u64
 
 // The number whose digits to base 4 are made of the bits of a row and a column, the row's above.
 fn interleave(row: u64, column: u64, height: u32) -> u64
-    requires { height ≤ MAX_HEIGHT }
+    requires low { height ≤ MAX_HEIGHT }
+    requires row { row < 2 ^ height }
+    requires column { column < 2 ^ height }
     ensures { result ≡ interleaved height row column }
 {
     let mut code = 0;
-    for level in (0..height).rev() {
-        code = 4 * code + 2 * ((row >> level) % 2) + (column >> level) % 2;
+    for byte in (0..height.div_ceil(8)).rev() {
+        let digits = 2 * spread(row >> (8 * byte)) + spread(column >> (8 * byte));
+        code = (1 << 16) * code + digits;
     }
     code
+}
+
+// The number whose digits to base 4 are the bits of the lowest byte.
+fn spread(number: u64) -> u64
+    ensures value { result ≡ interleaved 8 0 number }
+    ensures small { result < 2 ^ 16 }
+{
+    spread_byte(number % 256)
+}
+
+// The same of a byte: its bits go apart by four, by two and by one (H. S. Warren, "Hacker's Delight").
+fn spread_byte(byte: u64) -> u64
+    requires { byte < 256 }
+    ensures { result ≡ interleaved 8 0 byte }
+{
+    let nibbles = (byte | byte << 4) & 0x0f0f;
+    let pairs = (nibbles | nibbles << 2) & 0x3333;
+    (pairs | pairs << 1) & 0x5555
 }
 
 /// The cell that has the Morton number.

@@ -1,11 +1,10 @@
-ghost use Rattle.std.specs.Prelude.{◌≡◌, ◌++◌, ◌+◌, ◌≤◌, [], IfNone, IfSome, option_to_list};
+ghost use Rattle.std.specs.Prelude.{◌≡◌, ◌++◌, ◌+◌, ◌≤◌, [], false, IfNone, IfSome, option_to_list};
 ghost use Rattle.k2_tree.specs.TreeSquares.{area_of};
 
 use crate::keep::Keep;
 use crate::square::Square;
 use crate::square_walk::SquareWalk;
-use std::sync::ledger::Ledger;
-use step_count::Steps;
+use step_count::{Reads, Steps};
 use track_types::{Cell, Lazy};
 
 /// The leaves of a tree for which a test is true on each square from the whole grid to the cell, in
@@ -47,7 +46,10 @@ impl<'a, F: Keep> Lazy for Pruned<'a, F> {
 
     ghost budget = { pruned_budget F.keeps };
 
-    fn draw<L: Ledger>(&mut self, steps: &mut Steps<L>) -> Option<(u32, Cell)>
+    // The reads of a tree have no names.
+    ghost needs = { λ _ _. false };
+
+    fn draw<L: Reads>(&mut self, steps: &mut Steps<L>) -> Option<(u32, Cell)>
         ensures found { pruned_left F.keeps self.old
             ≡ option_to_list result ++ pruned_left F.keeps self.new }
         ensures none { IfNone result (pruned_left F.keeps self.old ≡ []) }

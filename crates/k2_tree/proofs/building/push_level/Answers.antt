@@ -1,72 +1,45 @@
-use Rattle.std.proofs.Common.{◌≡◌, ◌+◌, ◌-◌, ◌*◌, ◌/◌, ◌%◌, ◌^◌, ◌<◌, ◌≤◌, ◌++◌, length, true, arith, ap, sym, refl}
-use Rattle.std.proofs.Common.{◌∙◌, append-nil, take, get_or}
-use Rattle.std.proofs.Math.ListN.{set}
-use Rattle.std.proofs.Math.Nat.{mod-lt}
-use Rattle.k2_tree.specs.Widths.{fan_of}
-use Rattle.k2_tree.specs.TreeBits.{level_bits}
-use Rattle.k2_tree.specs.Building.{room}
-use Rattle.k2_tree.proofs.MortonLemmas.{two_bits}
-use Rattle.k2_tree.proofs.PrefixLemmas.{fan_pos}
-use Rattle.k2_tree.proofs.BuildingLemmas.{level_step, level_bits-none}
+use Rattle.std.proofs.Common.{◌≡◌, ◌<◌, ◌/◌, ◌%◌, ◌^◌, ◌++◌, length, get_or, ap, ◌∙◌, arith}
+use Rattle.std.proofs.lemmas.Bool.Decides.{nat_tests}
+use Rattle.packed_bits.specs.Words.{low_bits}
+use Rattle.k2_tree.proofs.GroupBitsLemmas.{group_fits}
+use Rattle.k2_tree.proofs.PushingLemmas.{level_bits-empty, pushing-first, pushing-same, pushing-next}
 use Rattle.k2_tree.proofs.building.push_level.Goals as goal
-use Rattle.k2_tree.proofs.building.push_level.Goals.{After-len}
+use Rattle.k2_tree.proofs.building.push_level.Goals.{then-codes-i+in_ok-push, else-codes-i}
+
+pub returns-then-is_empty : goal.returns-then-is_empty
+returns-then-is_empty c =
+    let none : length c.args.codes.now ≡ 0 = grind (arith, nat_tests, c.is_empty.ensures, c.if-is_empty.true) in
+    record { ok = level_bits-empty c.args.width c.args.level c.args.codes.now c.args.bits.now none }
 
 pub loop-i-init : goal.loop-i-init
 loop-i-init c =
-    sym (ap (λ bs. c.args.bits.now.items ++ bs) (level_bits-none c.args.width c.args.level)
-    ∙ append-nil c.args.bits.now.items)
+    let a = c.args in
+    let some : 0 < length a.codes.now = grind (arith, nat_tests, c.is_empty.ensures, c.if-is_empty.false) in
+    let bit = c.child_bit-group.ensures
+    ∙ ap (λ fan. 2 ^ (get_or a.codes.now 0 0 / 4 ^ a.level % fan)) c.fan_of-fan.ensures.value in
+    pushing-first a.width a.level a.codes.now a.bits.now c.requires.ascending c.requires.narrow c.child_bit-group.result bit some
+    c.requires.whole
 
-pub nonzero_rem-digit : goal.nonzero_rem-digit
-nonzero_rem-digit c = omega (arith, c.from.ensures, c.fan_of-fan.ensures.some)
-
--- the room is made, and the digit's place is in it
-record IsPlaced (c : After-len) : Type 0 where
-  pub fan : c.fan_of-fan.result ≡ fan_of c.args.width
-  pub digit : get_or c.args.codes.now c.loop-i.i 0 / 2 ^ (2 * c.args.level) % c.from.result
-      ≡ get_or c.args.codes.now c.loop-i.i 0 / 4 ^ c.args.level % fan_of c.args.width
-  pub long : c.len.result ≡ length c.make_room.new.bits.items
-  pub enough : fan_of c.args.width ≤ length c.make_room.new.bits.items
-  pub done : set c.make_room.new.bits.items (length c.make_room.new.bits.items - fan_of c.args.width
-      + get_or c.args.codes.now c.loop-i.i 0 / 4 ^ c.args.level % fan_of c.args.width) true
-      ≡ c.args.bits.now.items ++ level_bits c.args.width c.args.level (take (c.loop-i.i + 1) c.args.codes.now)
-
-placed : (c : After-len) → IsPlaced c
-placed c =
-    let fan = c.fan_of-fan.ensures.value in
-    let many : c.from.result ≡ fan_of c.args.width = c.from.ensures ∙ fan in
-    let step = level_step c.args.width c.args.level c.loop-i.i c.args.codes.now c.args.bits.now.items
-    c.loop-i.bits.items
-    c.requires.ascending (omega arith) c.loop-i.invariant in
-    let grown = c.in_ok-make_room.ensures.ok
-    ∙ ap (λ k. c.loop-i.bits.items ++ room k (c.args.width + c.args.level) c.args.codes.now c.loop-i.i) fan in
-    record {
-      fan = fan;
-      digit = rw (many, two_bits c.args.level) refl;
-      long = omega (arith, c.len.ensures, c.make_room.new.bits.ok);
-      enough = rw grown step.0;
-      done = rw grown step.1;
-    }
-
-pub overflow_sub-place : goal.overflow_sub-place
-overflow_sub-place c =
-    let p = placed (goal.at.overflow_sub-place c).After-len in omega (arith, p.fan, p.long, p.enough)
-
-inside : (c : After-len) → c.len.result - c.fan_of-fan.result
-    + get_or c.args.codes.now c.loop-i.i 0 / 2 ^ (2 * c.args.level) % c.from.result < c.len.result
-inside c =
-    let p = placed c in
-    let small = mod-lt (get_or c.args.codes.now c.loop-i.i 0 / 4 ^ c.args.level) (fan_pos c.args.width) in
-    omega (arith, p.fan, p.long, p.enough, p.digit, small)
-
-pub overflow_add-place : goal.overflow_add-place
-overflow_add-place c =
-    omega (arith, inside (goal.at.overflow_add-place c).After-len, c.len.type_inv)
-
-pub index_mut-requires : goal.index_mut-requires
-index_mut-requires c =
-    omega (arith, inside (goal.at.index_mut-requires c).After-len, c.len.ensures)
+pub push-requires-clause-fits : goal.push-requires-clause-fits
+push-requires-clause-fits c =
+    rw c.fan_of-fan.ensures.value (group_fits c.args.width (length c.loop-i.bits) c.requires.narrow c.loop-i.invariant.whole)
 
 pub loop-i-preserved : goal.loop-i-preserved
 loop-i-preserved c =
-    let p = placed (goal.at.loop-i-preserved c).After-len in
-    rw (p.digit, p.long, p.fan) p.done
+    let a = c.args in
+    let l = c.loop-i in
+    let fan = c.fan_of-fan.ensures.value in
+    let bit = c.child_bit-group-in-loop-i.ensures ∙ ap (λ fan. 2 ^ (get_or a.codes.now l.i 0 / 4 ^ a.level % fan)) fan in
+    elim c.if-codes-i.branch [
+      | then-codes-i+in_ok-push w ↦
+          rw (w.bits-is, w.group-is) (pushing-next a.width a.level a.codes.now a.bits.now c.requires.ascending c.requires.narrow
+          l.i l.bits l.group c.child_bit-group-in-loop-i.result c.loop-i-test.true bit l.invariant w.push.new.self
+          (w.in_ok-push.ensures.ok ∙ ap (λ fan. l.bits ++ low_bits fan l.group) fan) w.if-codes-i.true)
+      | else-codes-i w ↦
+          rw (w.bits-is, w.group-is) (pushing-same a.width a.level a.codes.now a.bits.now c.requires.ascending c.requires.narrow
+          l.i l.bits l.group c.child_bit-group-in-loop-i.result c.loop-i-test.true bit l.invariant w.if-codes-i.false)
+    ]
+
+pub push-requires-2-clause-fits : goal.push-requires-2-clause-fits
+push-requires-2-clause-fits c =
+    rw c.fan_of-fan.ensures.value (group_fits c.args.width (length c.loop-i.bits) c.requires.narrow c.loop-i.invariant.whole)

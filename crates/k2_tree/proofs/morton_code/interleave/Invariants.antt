@@ -1,6 +1,6 @@
-use Rattle.std.proofs.Common.{◌≡◌, ◌-◌, ◌/◌, ◌^◌}
+use Rattle.std.proofs.Common.{◌≡◌, ◌+◌, ◌-◌, ◌*◌, ◌/◌, ◌^◌}
 use Rattle.k2_tree.specs.Morton.{interleaved}
 use Rattle.k2_tree.proofs.morton_code.interleave.Given as goal
 
-abbrev pub invariant-loop-level : goal.invariant-loop-level
-invariant-loop-level l = l.code ≡ interleaved (l.height - l.level) (l.row / 2 ^ l.level) (l.column / 2 ^ l.level)
+abbrev pub invariant-loop-byte : goal.invariant-loop-byte
+invariant-loop-byte l = l.code ≡ interleaved (8 * ((l.height + 7) / 8 - l.byte)) (l.row / 2 ^ (8 * l.byte)) (l.column / 2 ^ (8 * l.byte))

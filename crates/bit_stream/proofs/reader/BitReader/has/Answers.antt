@@ -3,8 +3,8 @@ use Rattle.std.proofs.lemmas.Grind.{common_steps}
 use Rattle.bit_stream.proofs.ReaderLemmas.{has-left}
 use Rattle.bit_stream.proofs.reader.BitReader.has.Goals as goal
 
-pub returns : goal.returns
-returns c =
+pub returns-else-is_long : goal.returns-else-is_long
+returns-else-is_long c =
     let bytes = c.self.inside.bytes.now in
     let count : c.div_ceil.result ≡ (c.self.inside.used + c.args.count + 7) / 8 = grind (arith, common_steps) in
     ap (λ n. nat_le n (length bytes)) count ∙ has-left c.self.inside.used bytes c.self.invariant c.args.count

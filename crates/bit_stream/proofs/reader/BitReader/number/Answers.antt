@@ -1,4 +1,4 @@
-use Rattle.std.proofs.Common.{◌≡◌, ℕ, suc, ◌+◌, ◌-◌, ◌*◌, ◌/◌, ◌%◌, ◌^◌, ◌≤◌, ◌<◌, length, Ok, refl, ap, ◌∙◌, sym, arith, lit<}
+use Rattle.std.proofs.Common.{◌≡◌, ℕ, suc, ◌+◌, ◌-◌, ◌*◌, ◌/◌, ◌%◌, ◌^◌, ◌≤◌, ◌<◌, length, true, Ok, refl, ap, ◌∙◌, sym, arith, lit<}
 use Rattle.std.proofs.Math.Nat.{pow-suc, pow-le-pow_right}
 use Rattle.std.proofs.lemmas.Nat.{one_shl, mod_below, pow_pos}
 use Rattle.std.proofs.lemmas.Bool.Decides.{nat_tests}
@@ -20,7 +20,8 @@ returns-clause-exact c =
     let few : z ≤ 5 = c.if-zeros-gt-MAX_ZEROS.false in
     let digits = 1 * 2 ^ z % 4294967296 + word / 2 ^ (z + 1) % (1 * 2 ^ z % 18446744073709551616) in
     let narrow : 2 * z + digits ≤ 56 = c.if-length-gt-MAX_WIDTH.false in
-    let there : 2 * z + digits ≤ length bits = grind (arith, nat_tests, c.has.ensures) in
+    let long : c.is_long.result ≡ true = grind (arith, nat_tests) in
+    let there : 2 * z + digits ≤ length bits = omega (arith, narrow, c.is_long.ensures long) in
     let one = one_shl (digits - 1) 64 (omega (arith, narrow)) in
     number_in-shown word bits c.window-word.ensures few c.window-word.type_inv z digits refl (count z (word / 2 ^ (z + 1)) few) narrow there
     ∙ ap (λ left. Ok (2 ^ (digits - 1) + word / 2 ^ (2 * z + 1) % 2 ^ (digits - 1) - 1, left)) (sym c.skip.ensures)
