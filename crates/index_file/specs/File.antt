@@ -1,13 +1,13 @@
 -- The bytes of an index file, and the parts that bytes hold, in each version of the format.
 use Rattle.std.specs.Prelude.{◌≡◌, ℕ, false, if◌then◌else◌, List, length, Result, Ok}
-use Rattle.std.specs.Global.{Vec}
 use Rattle.track_types.specs.Shape.{IsShaped}
 use Rattle.track_types.specs.declared.flaw.Flaw.{Flaw}
 use Rattle.track_types.specs.declared.limit.TheConstants.{MAX_VERSION}
 use Rattle.track_types.specs.declared.parts.Parts.{Parts}
 use Rattle.rule_order.specs.Order.{IsSettled}
-use Rattle.log_bounds.specs.declared.bounds.LogBounds.{LogBounds}
+use Rattle.rule_store.specs.Table.{IsWholeTable}
 use Rattle.snapshots.specs.Bounded.{AreBounds}
+use Rattle.snapshots.specs.Parts.{rules_in}
 use Rattle.snapshots.specs.SoundParts.{IsValid}
 use Rattle.index_format.specs.Fields.{◌>>=◌}
 use Rattle.index_format.specs.Spelling.{bytes_of_parts, says_symbols}
@@ -17,6 +17,7 @@ use Rattle.index_format.specs.declared.stored.Stored.{Stored}
 use Rattle.index_format.specs.declared.stored.Stored.TheVariants as stored
 use Rattle.outline_parts.specs.OutlineOf.{outline_of}
 use Rattle.outline_parts.specs.PartsOfOutline.{parts_of_outline}
+use Rattle.index_file.specs.declared.file.Found.{Found}
 
 -- the bytes of the index file that holds parts, in their version
 unfoldable pub file_bytes : Parts → List ℕ
@@ -48,7 +49,8 @@ pub record IsNewest (parts : Parts) : Type 0 where
   pub newest : parts.frame.version ≡ MAX_VERSION
   pub ordered : IsOrdered parts
 
--- parts are those of an index, and the bounds are those of its logs, by period
-pub record AreBounded (parts : Parts) (bounds : List (Vec LogBounds)) : Type 0 where
+-- parts are those of an index, and this was found of them: the bounds of its logs, by period, and the entries of its symbols
+pub record IsFoundOf (parts : Parts) (found : Found) : Type 0 where
   pub valid : IsValid parts
-  pub bounds_are : AreBounds parts bounds
+  pub bounds_are : AreBounds parts found.bounds.items
+  pub table_is : IsWholeTable (rules_in parts) found.table

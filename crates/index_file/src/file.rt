@@ -2,22 +2,31 @@ ghost use Rattle.std.specs.Prelude.{◌≡◌, ◌<◌, ◌≤◌, IfOk, IfErr, 
 ghost use Rattle.track_types.specs.declared.limit.TheConstants.{MAX_INDEX};
 ghost use Rattle.track_types.specs.declared.parts.Parts as declared;
 ghost use Rattle.index_format.specs.Answers.{Gives, IsFormatFault};
-ghost use Rattle.index_file.specs.File.{file_bytes, parts_in, AreBounded, IsFormed, IsNewest};
+ghost use Rattle.index_file.specs.File.{file_bytes, parts_in, IsFormed, IsFoundOf, IsNewest};
 
 use index_format::{Decoded, FormatFault, Stored, encode_outline};
 use log_bounds::PackedBounds;
 use outline_parts::{BoundedParts, outline_of, parts_of_outline};
+use rule_store::EntryTable;
 use std::alloc::Global;
 use track_types::{Memory, Parts};
 
-/// The parts that a file holds, and what bounds their logs, where reading has found it.
-#[derive(Debug, Drop)]
+/// The parts that a file holds, and what was found of them as they were read.
+#[derive(Drop)]
 pub struct FileParts {
     /// The parts.
     pub parts: Parts,
-    /// For each period the bounds of the logs of its blocks, by object, where the file is of version 3. Then the parts are
-    /// those of an index. Cells are counted from the base of the grid.
-    pub bounds: Option<Vec<Vec<PackedBounds>>>,
+    /// What was found, where the file is of version 3. Then the parts are those of an index.
+    pub found: Option<Found>,
+}
+
+/// What is found of the parts of an index as they are read.
+#[derive(Drop)]
+pub struct Found {
+    /// For each period the bounds of the logs of its blocks, by object. Cells are counted from the base of the grid.
+    pub bounds: Vec<Vec<PackedBounds>>,
+    /// The entries of all symbols.
+    pub table: EntryTable,
 }
 
 /// The parts that the bytes of an index file hold, in any version. There are at most `MAX_INDEX` bytes, and all are read.
@@ -33,13 +42,13 @@ pub fn decode(alloc: Global, bytes: &[u8]) -> Result<Parts, FormatFault>
         → Gives (λ found. found) result (Ok parts) }
     ensures flaw { IfErr result (IsFormatFault (parts_in bytes.now)) }
 {
-    let read = decode_bounded(alloc, bytes)?;
+    let read = decode_found(alloc, bytes)?;
     Ok(read.parts)
 }
 
-/// The parts that the bytes of an index file hold, as `decode` reads them, with the bounds of their logs in a file of
-/// version 3. Who opens the index need not read its logs again.
-pub fn decode_bounded(alloc: Global, bytes: &[u8]) -> Result<FileParts, FormatFault>
+/// The parts that the bytes of an index file hold, as `decode` reads them, with what is found of them in a file of version 3.
+/// By this an index is opened without a second look at its rules and logs.
+pub fn decode_found(alloc: Global, bytes: &[u8]) -> Result<FileParts, FormatFault>
     requires { length bytes.now ≤ MAX_INDEX }
     ensures ok { IfOk result (λ read. parts_in bytes.now ≡ Ok read.parts) }
     ensures formed { IfOk result (λ read. IsFormed read.parts) }
@@ -47,33 +56,32 @@ pub fn decode_bounded(alloc: Global, bytes: &[u8]) -> Result<FileParts, FormatFa
     ensures one { (parts : declared.Parts) → IsFormed parts → bytes.now ≡ file_bytes parts
         → Gives (λ read. read.parts) result (Ok parts) }
     ensures flaw { IfErr result (IsFormatFault (parts_in bytes.now)) }
-    ensures bounds { IfOk result (λ read.
-        IfSome read.bounds (λ bounds. AreBounded read.parts bounds.items)) }
-    ensures unbounded { IfOk result (λ read. IfNone read.bounds (read.parts.frame.version < 3)) }
+    ensures found { IfOk result (λ read. IfSome read.found (IsFoundOf read.parts)) }
+    ensures older { IfOk result (λ read. IfNone read.found (read.parts.frame.version < 3)) }
 {
     read_file(alloc, bytes)
 }
 
-// The parts that the bytes hold, with the bounds of their logs where they are read.
+// The parts that the bytes hold, with what is found of them.
 #[tactic(auto, unfolding(crate::specs::File::parts_in))]
 fn read_file(alloc: Global, bytes: &[u8]) -> Result<FileParts, FormatFault>
     requires { length bytes.now ≤ MAX_INDEX }
     ensures parts { Gives (λ read. read.parts) result (parts_in bytes.now) }
-    ensures bounds { IfOk result (λ read.
-        IfSome read.bounds (λ bounds. AreBounded read.parts bounds.items)) }
-    ensures unbounded { IfOk result (λ read. IfNone read.bounds (read.parts.frame.version < 3)) }
+    ensures found { IfOk result (λ read. IfSome read.found (IsFoundOf read.parts)) }
+    ensures older { IfOk result (λ read. IfNone read.found (read.parts.frame.version < 3)) }
 {
-    let Decoded { stored, bounds } = index_format::decode(alloc, bytes)?;
+    let Decoded {
+        stored,
+        bounds,
+        table,
+    } = index_format::decode(alloc, bytes)?;
     match stored {
-        Stored::Parts(parts) => Ok(FileParts {
-            parts,
-            bounds: None,
-        }),
+        Stored::Parts(parts) => Ok(FileParts { parts, found: None }),
         Stored::Outline(outline) => {
             let BoundedParts { parts, bounds } = parts_of_outline(alloc, outline, bounds)?;
             Ok(FileParts {
                 parts,
-                bounds: Some(bounds),
+                found: Some(Found { bounds, table }),
             })
         }
     }

@@ -6,4 +6,4 @@
 
 mod file;
 
-pub use file::{FileParts, decode, decode_bounded, encode};
+pub use file::{FileParts, Found, decode, decode_found, encode};

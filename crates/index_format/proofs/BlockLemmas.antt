@@ -15,7 +15,8 @@ use Rattle.index_format.specs.Answers.{IsFormatFault}
 use Rattle.index_format.specs.Elements.{Element, told_at}
 use Rattle.index_format.specs.Fields.{◌>>=◌, flaw_at}
 use Rattle.index_format.specs.OutlineBlocks.{InLog, Told, anchor_in, block_in, blocks_in, further_in, log_in, object_blocks_in, period_end}
-use Rattle.index_format.specs.BlockSteps.{IsKept, IsWholeTable, next_anchor_in, nothing_told}
+use Rattle.rule_store.specs.Table.{IsWholeTable}
+use Rattle.index_format.specs.BlockSteps.{IsKept, next_anchor_in, nothing_told}
 use Rattle.index_format.proofs.AnchorLemmas.{bind-fault, bind-ok, fault-of}
 
 -- what is told after a block

@@ -15,7 +15,8 @@ use Rattle.track_types.specs.declared.cell.Cell.{Cell}
 use Rattle.track_types.specs.declared.frame.Frame.{Frame}
 use Rattle.index_format.specs.OutlineBlocks.{anchor_instant, blocks_bits, cell_after, object_bits, period_end}
 use Rattle.index_format.specs.IsOutline.{all_follow, blocks_with_logs, comes_after}
-use Rattle.index_format.specs.BlockSteps.{IsPlaced, IsWholeTable, block_bits, no_block}
+use Rattle.rule_store.specs.Table.{IsWholeTable}
+use Rattle.index_format.specs.BlockSteps.{IsPlaced, block_bits, no_block}
 use Rattle.index_format.specs.declared.outline.OutlineBlock.{OutlineBlock}
 use Rattle.index_format.proofs.BlockPuttingLemmas.{object_bits-cons, object_bits-nil}
 

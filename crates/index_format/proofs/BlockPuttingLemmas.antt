@@ -19,7 +19,8 @@ use Rattle.track_types.specs.declared.cell.Cell.{Cell}
 use Rattle.track_types.specs.declared.frame.Frame.{Frame}
 use Rattle.index_format.specs.OutlineBlocks.{anchor_instant, cell_after, end_bits, entry_width, is_in_grid, object_bits, period_end}
 use Rattle.index_format.specs.IsOutline.{blocks_with_logs}
-use Rattle.index_format.specs.BlockSteps.{IsKept, IsLogFrom, IsPlaced, IsWholeTable, block_bits}
+use Rattle.rule_store.specs.Table.{IsWholeTable}
+use Rattle.index_format.specs.BlockSteps.{IsKept, IsLogFrom, IsPlaced, block_bits}
 use Rattle.index_format.specs.declared.outline.OutlineBlock.{OutlineBlock}
 use Rattle.index_format.proofs.AlongLemmas.{end-inside, present-joined}
 use Rattle.list_laws.proofs.FrontLemmas.{All-front}

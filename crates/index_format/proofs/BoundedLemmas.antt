@@ -79,11 +79,13 @@ greatest_word z a b is low high made = subst IsWord (sym made) (record {
 })
 
 -- the bounds of a log that begins can be packed
-pub packable-none : (cell : Cell) (bounds : LogBounds) → is_in_grid MAX_HEIGHT cell ≡ true → bounds.speed ≡ 0
-    → bounds.area ≡ cell_box cell → IsPackable bounds
-packable-none cell bounds inside slow small =
+pub packable-none : (cell : Cell) (bounds : LogBounds) → is_in_grid MAX_HEIGHT cell ≡ true → bounds.from ≡ cell
+    → bounds.speed ≡ 0 → bounds.area ≡ cell_box cell → IsPackable bounds
+packable-none cell bounds inside begins slow small =
     let is = in_grid-bounds MAX_HEIGHT cell inside in
-    subst IsPackable (sym (same_bounds bounds.speed 0 bounds.area (cell_box cell) slow small)) (record {
+    subst IsPackable (sym (same_bounds bounds.from cell bounds.speed 0 bounds.area (cell_box cell) begins slow small)) (record {
+      column = record { low = is.left; high = omega (arith, ints, is.right) };
+      line = record { low = is.below; high = omega (arith, ints, is.above) };
       speed = omega arith;
       x1 = record { low = is.left; high = omega (arith, ints, is.right) };
       y1 = record { low = is.below; high = omega (arith, ints, is.above) };
@@ -92,12 +94,20 @@ packable-none cell bounds inside slow small =
     })
 
 -- and so can those with one symbol more, whose box stays in the grid
-module _ (height : ℕ) (fits : height ≤ MAX_HEIGHT) (start cell : Cell) (begins : is_in_grid MAX_HEIGHT start ≡ true) (before : ℕ)
-    (bounds next : LogBounds) (small : IsPackable bounds) where
+module _ (height : ℕ) (fits : height ≤ MAX_HEIGHT) (cell : Cell) (before : ℕ) (bounds next : LogBounds)
+    (begins : is_in_grid MAX_HEIGHT bounds.from ≡ true) (small : IsPackable bounds) (same : next.from ≡ bounds.from) where
+  column_of : IsWord next.from.x
+  column_of = subst (λ (from : Cell). IsWord from.x) (sym same) small.column
+
+  line_of : IsWord next.from.y
+  line_of = subst (λ (from : Cell). IsWord from.y) (sym same) small.line
+
   pub packable-more : (hull : Option CellBox) → stays_in height cell hull ≡ true
-      → next.speed ≡ max bounds.speed (hull_speed start cell before hull) → next.area ≡ with_hull bounds.area cell hull
+      → next.speed ≡ max bounds.speed (hull_speed bounds.from cell before hull) → next.area ≡ with_hull bounds.area cell hull
       → IsPackable next
   packable-more None stays faster wider = record {
+    column = column_of;
+    line = line_of;
     speed = omega (arith, faster, small.speed);
     x1 = subst (λ (area : CellBox). IsWord area.x1) (sym wider) small.x1;
     y1 = subst (λ (area : CellBox). IsWord area.y1) (sym wider) small.y1;
@@ -110,8 +120,8 @@ module _ (height : ℕ) (fits : height ≤ MAX_HEIGHT) (start cell : Cell) (begi
       let corners = and_parts (is_in_grid height first) (is_in_grid height last) stays in
       let low = in_grid-bounds MAX_HEIGHT first (in_grid-widest height first fits corners.0) in
       let high = in_grid-bounds MAX_HEIGHT last (in_grid-widest height last fits corners.1) in
-      let from = in_grid-bounds MAX_HEIGHT start begins in
-      let far : far_of start cell hull < 2 ^ MAX_HEIGHT = omega (
+      let from = in_grid-bounds MAX_HEIGHT bounds.from begins in
+      let far : far_of bounds.from cell hull < 2 ^ MAX_HEIGHT = omega (
         arith,
         ints,
         from.left,
@@ -127,8 +137,10 @@ module _ (height : ℕ) (fits : height ≤ MAX_HEIGHT) (start cell : Cell) (begi
         high.below,
         high.above,
       ) in
-      let slow = div-le_self (far_of start cell hull) (before + 1) in
+      let slow = div-le_self (far_of bounds.from cell hull) (before + 1) in
       record {
+        column = column_of;
+        line = line_of;
         speed = omega (arith, faster, small.speed, far, slow);
         x1 = least_word next.area.x1 bounds.area.x1 first.x small.x1 low.left low.right (ap (λ (area : CellBox). area.x1) wider);
         y1 = least_word next.area.y1 bounds.area.y1 first.y small.y1 low.below low.above (ap (λ (area : CellBox). area.y1) wider);
@@ -138,14 +150,14 @@ module _ (height : ℕ) (fits : height ≤ MAX_HEIGHT) (start cell : Cell) (begi
 
 module _ (view : RulesView) (start : LogRest) (before : List ℕ) where
   -- a log of which no symbol was read
-  pub behind-none : (log : BoundedLog) → log.start ≡ start → log.at ≡ start → log.bounds.speed ≡ 0
+  pub behind-none : (log : BoundedLog) → log.whole ≡ start.rest → log.at ≡ start → log.bounds.from ≡ start.cell → log.bounds.speed ≡ 0
       → log.bounds.area ≡ cell_box start.cell → IsReadBehind view start before before log
   unfolding cell_after duration_of_log
-  behind-none log begins stands slow small = record {
+  behind-none log begins stands from slow small = record {
     own = [];
     joined = sym (append-nil before);
     begins = begins;
-    bounded = same_bounds log.bounds.speed 0 log.bounds.area (cell_box start.cell) slow small ∙ bounds-none view start.cell;
+    bounded = same_bounds log.bounds.from start.cell log.bounds.speed 0 log.bounds.area (cell_box start.cell) from slow small ∙ bounds-none view start.cell;
     cell = ap (λ (at : LogRest). at.cell) stands;
     passed = omega (arith, ap (λ (at : LogRest). at.rest) stands);
   }
@@ -153,11 +165,11 @@ module _ (view : RulesView) (start : LogRest) (before : List ℕ) where
   -- one symbol more
   pub behind-more : (symbols : List ℕ) (symbol : ℕ) (entry : Entry) (log next : BoundedLog)
       → IsReadBehind view start before symbols log → entry ≡ entry_of view symbol → entry.duration ≤ log.at.rest
-      → next.start ≡ log.start → next.at ≡ log_moved log.at entry
-      → next.bounds.speed ≡ max log.bounds.speed (hull_speed log.start.cell log.at.cell (log.start.rest - log.at.rest) entry.hull)
+      → next.whole ≡ log.whole → next.at ≡ log_moved log.at entry → next.bounds.from ≡ log.bounds.from
+      → next.bounds.speed ≡ max log.bounds.speed (hull_speed log.bounds.from log.at.cell (log.whole - log.at.rest) entry.hull)
       → next.bounds.area ≡ with_hull log.bounds.area log.at.cell entry.hull
       → IsReadBehind view start before (symbols ++ symbol ∷ []) next
-  behind-more symbols symbol entry log next is its fits begins leads faster wider =
+  behind-more symbols symbol entry log next is its fits begins leads from faster wider =
       let own = is.own in
       let passed : start.rest - log.at.rest ≡ duration_of_log view own = omega (arith, is.passed) in
       let lasts = duration_of_log-more view own symbol in
@@ -166,9 +178,9 @@ module _ (view : RulesView) (start : LogRest) (before : List ℕ) where
         joined = ap (λ symbols. symbols ++ symbol ∷ []) is.joined ∙ append_assoc before own (symbol ∷ []);
         begins = begins ∙ is.begins;
         bounded = bounds-more view start.cell own symbol log.bounds next.bounds log.at.cell (start.rest - log.at.rest) entry
-            is.bounded is.cell passed its
-            (faster ∙ ap (λ (from : LogRest). max log.bounds.speed
-            (hull_speed from.cell log.at.cell (from.rest - log.at.rest) entry.hull)) is.begins)
+            is.bounded is.cell passed its from
+            (faster ∙ ap (λ whole. max log.bounds.speed
+            (hull_speed log.bounds.from log.at.cell (whole - log.at.rest) entry.hull)) is.begins)
             wider;
         cell = ap (λ (at : LogRest). at.cell) leads ∙ ap (λ (entry : Entry). moved log.at.cell (entry.dx, entry.dy)) its
             ∙ moved-entry view log.at.cell symbol

@@ -20,7 +20,8 @@ use Rattle.index_format.specs.Answers.{IsFormatFault}
 use Rattle.index_format.specs.Elements.{Element, wide_at}
 use Rattle.index_format.specs.Fields.{◌>>=◌, flaw_at}
 use Rattle.index_format.specs.OutlineBlocks.{InLog, entry_in, entry_width, is_in_grid, log_in, stays_in}
-use Rattle.index_format.specs.BlockSteps.{IsWholeTable, log_after, log_moved, log_past, log_with}
+use Rattle.rule_store.specs.Table.{IsWholeTable}
+use Rattle.index_format.specs.BlockSteps.{log_after, log_moved, log_past, log_with}
 use Rattle.rule_store.specs.declared.entry_table.EntryTable.{EntryTable}
 use Rattle.index_format.specs.declared.outline.entries.LogRest.{LogRest}
 use Rattle.index_format.proofs.AnchorLemmas.{bind-fault, bind-ok, fault-of}

@@ -24,11 +24,6 @@ use Rattle.index_format.specs.declared.outline.blocks.Progress.{Progress}
 use Rattle.index_format.specs.declared.outline.blocks.ReadBlocks.{ReadBlocks}
 use Rattle.index_format.specs.declared.outline.entries.LogRest.{LogRest}
 
--- the table has the entries of all symbols of the rules
-pub record IsWholeTable (view : RulesView) (table : EntryTable) : Type 0 where
-  pub known : IsTableOf view table
-  pub all : symbols_of table ≡ symbols_in view
-
 -- a last cell, if there is one, is in the grid
 abbrev pub IsKept : ℕ → Option Cell → Type 0
 IsKept height last = IfSome last (λ cell. is_in_grid height cell ≡ true)

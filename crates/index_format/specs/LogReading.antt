@@ -6,7 +6,7 @@ use Rattle.log_bounds.specs.declared.bounds.LogBounds.{LogBounds}
 use Rattle.rule_store.specs.View.{RulesView}
 use Rattle.rule_store.specs.declared.entry_table.EntryTable.{EntryTable}
 use Rattle.track_types.specs.declared.flaw.Kind.{Kind}
-use Rattle.index_format.specs.BlockSteps.{IsWholeTable}
+use Rattle.rule_store.specs.Table.{IsWholeTable}
 use Rattle.index_format.specs.IsOutline.{blocks_with_logs}
 use Rattle.index_format.specs.OutlineBounds.{block_bounds}
 use Rattle.index_format.specs.declared.outline.OutlineBlock.{OutlineBlock}
@@ -24,7 +24,7 @@ reached (Err kind) = Err kind
 pub record IsReadBehind (view : RulesView) (start : LogRest) (before symbols : List ℕ) (log : BoundedLog) : Type 0 where
   pub own : List ℕ
   pub joined : symbols ≡ before ++ own
-  pub begins : log.start ≡ start
+  pub begins : log.whole ≡ start.rest
   pub bounded : log.bounds ≡ bounds_of view start.cell own
   pub cell : log.at.cell ≡ cell_after view start.cell own
   pub passed : duration_of_log view own + log.at.rest ≡ start.rest

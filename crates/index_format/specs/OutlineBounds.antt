@@ -14,9 +14,13 @@ use Rattle.index_format.specs.declared.stored.Stored.TheVariants.{Parts, Outline
 abbrev pub block_bounds : RulesView → OutlineBlock × List ℕ → LogBounds
 block_bounds view it = bounds_of view it.0.cell it.1
 
+-- the rules of an outline, without a stored symbol
+abbrev pub rules_read : outlines.Outline → RulesView
+rules_read outline = frame_rules outline.frame outline.alphabet outline.rules
+
 -- the bounds of the logs of all blocks, in the order of these
 abbrev pub bounds_in : outlines.Outline → List LogBounds
-bounds_in outline = map (block_bounds (frame_rules outline.frame outline.alphabet outline.rules))
+bounds_in outline = map (block_bounds (rules_read outline))
     (blocks_with_logs outline.blocks outline.symbols)
 
 -- a fact of what is stored, where that is an outline

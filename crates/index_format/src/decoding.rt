@@ -3,7 +3,8 @@ ghost use Rattle.track_types.specs.declared.limit.TheConstants.{MAX_INDEX};
 ghost use Rattle.index_format.specs.Headers.{IsHeader};
 ghost use Rattle.index_format.specs.declared.stored.Stored as declared;
 ghost use Rattle.index_format.specs.Answers.{Gives, IsFormatFault};
-ghost use Rattle.index_format.specs.OutlineBounds.{IfOutline, bounds_in};
+ghost use Rattle.rule_store.specs.Table.{IsWholeTable};
+ghost use Rattle.index_format.specs.OutlineBounds.{IfOutline, bounds_in, rules_read};
 ghost use Rattle.index_format.specs.Reading.{parts_after};
 ghost use Rattle.index_format.specs.Stored.{stored_after, stored_in, stored_bytes, IsStored};
 
@@ -11,19 +12,20 @@ use crate::decoded::Decoded;
 use crate::header::{Header, header_of, says_symbols};
 use crate::lists::{alphabet_of, objects_of, rules_of};
 use crate::log::log_of;
-use crate::outline::outline_after;
+use crate::outline::{ReadOutline, outline_after};
 use crate::periods::periods_of;
 use crate::place::Place;
 use crate::stored::Stored;
+use rule_store::EntryTable;
 use std::alloc::Global;
 use track_types::{FormatFault, Kind, Parts, Section};
 
-/// What the bytes of an index file store, and what bounds the logs of an outline. There are at most `MAX_INDEX` bytes, and all
+/// What the bytes of an index file store, with what bounds the logs of an outline and the entries of its symbols. There are at most `MAX_INDEX` bytes, and all
 /// are read.
 ///
 /// `FormatFault::Flaw` is the first flaw from the front. All that has the form of an index is decoded from its own bytes
 /// alone. Memory is taken only as the bytes warrant: a list is made as long as the bytes that are left can hold, or grows as
-/// its elements are read. So does the list of bounds, which takes 20 bytes for each block.
+/// its elements are read. So does the list of bounds, which takes 28 bytes for each block.
 pub fn decode(alloc: Global, bytes: &[u8]) -> Result<Decoded, FormatFault>
     requires { length bytes.now ≤ MAX_INDEX }
     ensures ok { IfOk result (λ decoded. stored_in bytes.now ≡ Ok decoded.stored) }
@@ -33,6 +35,8 @@ pub fn decode(alloc: Global, bytes: &[u8]) -> Result<Decoded, FormatFault>
         → Gives (λ decoded. decoded.stored) result (Ok stored) }
     ensures bounds { IfOk result (λ decoded. IfOutline decoded.stored
         (λ outline. decoded.bounds.items ≡ bounds_in outline)) }
+    ensures table { IfOk result (λ decoded. IfOutline decoded.stored
+        (λ outline. IsWholeTable (rules_read outline) decoded.table)) }
     ensures flaw { IfErr result (IsFormatFault (stored_in bytes.now)) }
 {
     decoded_of(alloc, bytes)
@@ -44,6 +48,8 @@ fn decoded_of(alloc: Global, bytes: &[u8]) -> Result<Decoded, FormatFault>
     ensures exact { Gives (λ decoded. decoded.stored) result (stored_in bytes.now) }
     ensures bounds { IfOk result (λ decoded. IfOutline decoded.stored
         (λ outline. decoded.bounds.items ≡ bounds_in outline)) }
+    ensures table { IfOk result (λ decoded. IfOutline decoded.stored
+        (λ outline. IsWholeTable (rules_read outline) decoded.table)) }
 {
     let (header, rest) = header_of(bytes)?;
     decoded_after(alloc, header, rest)
@@ -56,18 +62,26 @@ fn decoded_after(alloc: Global, header: Header, bytes: &[u8]) -> Result<Decoded,
     ensures exact { Gives (λ decoded. decoded.stored) result (stored_after header bytes.now) }
     ensures bounds { IfOk result (λ decoded. IfOutline decoded.stored
         (λ outline. decoded.bounds.items ≡ bounds_in outline)) }
+    ensures table { IfOk result (λ decoded. IfOutline decoded.stored
+        (λ outline. IsWholeTable (rules_read outline) decoded.table)) }
 {
     if says_symbols(header.frame.version) {
         let parts = parts_after(alloc, header, bytes)?;
         return Ok(Decoded {
             stored: Stored::Parts(parts),
             bounds: Vec::new(alloc),
+            table: EntryTable::new(alloc, header.frame.height, header.frame.period),
         });
     }
-    let (outline, bounds) = outline_after(alloc, header, bytes)?;
+    let ReadOutline {
+        outline,
+        bounds,
+        table,
+    } = outline_after(alloc, header, bytes)?;
     Ok(Decoded {
         stored: Stored::Outline(outline),
         bounds,
+        table,
     })
 }
 

@@ -15,7 +15,7 @@ mod table;
 mod told;
 mod writing;
 
-pub use reading::outline_after;
+pub use reading::{ReadOutline, outline_after};
 use std::marker::Model;
 use track_types::{Cell, Frame, List32, List64, PairList};
 pub use writing::encode_outline;

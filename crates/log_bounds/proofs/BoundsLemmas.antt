@@ -12,12 +12,13 @@ use Rattle.log_bounds.specs.declared.bounds.LogBounds.{LogBounds}
 use Rattle.log_bounds.proofs.SpeedLemmas.{log_speed-more, log_speed-moved}
 use Rattle.log_bounds.proofs.BoxLemmas.{log_box-more, log_box-moved}
 
--- bounds with the same speed and the same box are the same
-pub same_bounds : (s t : ℕ) (a b : CellBox) → s ≡ t → a ≡ b → bounds_with s a ≡ bounds_with t b
-same_bounds s t a b speeds areas = ap (λ n. bounds_with n a) speeds ∙ ap (bounds_with t) areas
+-- bounds from the same cell with the same speed and the same box are the same
+pub same_bounds : (c d : Cell) (s t : ℕ) (a b : CellBox) → c ≡ d → s ≡ t → a ≡ b → bounds_with c s a ≡ bounds_with d t b
+same_bounds c d s t a b cells speeds areas =
+    ap (λ x. bounds_with x s a) cells ∙ ap (λ n. bounds_with d n a) speeds ∙ ap (bounds_with d t) areas
 
 -- without a symbol there is no speed, and the box is that of the first cell
-pub bounds-none : (rules : RulesView) (start : Cell) → bounds_with 0 (cell_box start) ≡ bounds_of rules start []
+pub bounds-none : (rules : RulesView) (start : Cell) → bounds_with start 0 (cell_box start) ≡ bounds_of rules start []
 unfolding log_speed log_box
 bounds-none rules start = refl
 
@@ -25,12 +26,15 @@ bounds-none rules start = refl
 pub bounds-more : (rules : RulesView) (start : Cell) (log : List ℕ) (symbol : ℕ) (bounds next : LogBounds) (cell : Cell)
     (before : ℕ) (entry : Entry) → bounds ≡ bounds_of rules start log → cell ≡ cell_after rules start log
     → before ≡ duration_of_log rules log → entry ≡ entry_of rules symbol
-    → next.speed ≡ max bounds.speed (hull_speed start cell before entry.hull)
+    → next.from ≡ bounds.from → next.speed ≡ max bounds.speed (hull_speed bounds.from cell before entry.hull)
     → next.area ≡ with_hull bounds.area cell entry.hull
     → next ≡ bounds_of rules start (log ++ symbol ∷ [])
-bounds-more rules start log symbol bounds next cell before entry so_far stands lasted its speed area =
-    same_bounds next.speed (log_speed rules start (log ++ symbol ∷ [])) next.area (log_box rules start (log ++ symbol ∷ []))
-    (log_speed-more rules start log symbol bounds.speed next.speed cell before entry speed
+bounds-more rules start log symbol bounds next cell before entry so_far stands lasted its from speed area =
+    let begins : bounds.from ≡ start = ap (λ (b : LogBounds). b.from) so_far in
+    same_bounds next.from start next.speed (log_speed rules start (log ++ symbol ∷ [])) next.area (log_box rules start (log ++ symbol ∷ []))
+    (from ∙ begins)
+    (log_speed-more rules start log symbol bounds.speed next.speed cell before entry
+    (speed ∙ ap (λ c. max bounds.speed (hull_speed c cell before entry.hull)) begins)
     (ap (λ (b : LogBounds). b.speed) so_far) stands lasted its)
     (log_box-more rules start log symbol bounds.area next.area cell entry area (ap (λ (b : LogBounds). b.area) so_far) stands
     its)
@@ -38,8 +42,8 @@ bounds-more rules start log symbol bounds next cell before entry so_far stands l
 -- from a cell that is moved the speed is the same, and the box is moved
 pub bounds-moved : (rules : RulesView) (by : ℤ × ℤ) (start : Cell) (log : List ℕ)
     → bounds_of rules (moved start by) log
-    ≡ bounds_with (bounds_of rules start log).speed (moved_box (cell_with by.0 by.1) (bounds_of rules start log).area)
+    ≡ bounds_with (moved start by) (bounds_of rules start log).speed (moved_box (cell_with by.0 by.1) (bounds_of rules start log).area)
 bounds-moved rules by start log =
-    same_bounds (log_speed rules (moved start by) log) (log_speed rules start log) (log_box rules (moved start by) log)
-    (moved_box (cell_with by.0 by.1) (log_box rules start log)) (log_speed-moved rules by start log)
+    same_bounds (moved start by) (moved start by) (log_speed rules (moved start by) log) (log_speed rules start log) (log_box rules (moved start by) log)
+    (moved_box (cell_with by.0 by.1) (log_box rules start log)) refl (log_speed-moved rules by start log)
     (log_box-moved rules by start log)

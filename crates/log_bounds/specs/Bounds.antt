@@ -74,21 +74,23 @@ placed_boxes rules cell log count = filter_map (symbol_box rules cell log) (rang
 unfoldable pub log_box : RulesView → Cell → List ℕ → CellBox
 log_box rules cell log = fold joined_box (cell_box cell) (placed_boxes rules cell log (length log))
 
--- the bounds with this speed and this box
-abbrev pub bounds_with : ℕ → CellBox → LogBounds
-bounds_with speed area = record { speed = speed; area = area }
+-- the bounds from this cell, with this speed and this box
+abbrev pub bounds_with : Cell → ℕ → CellBox → LogBounds
+bounds_with from speed area = record { from = from; speed = speed; area = area }
 
 -- the bounds of a log, from its first cell on
 abbrev pub bounds_of : RulesView → Cell → List ℕ → LogBounds
-bounds_of rules cell log = bounds_with (log_speed rules cell log) (log_box rules cell log)
+bounds_of rules cell log = bounds_with cell (log_speed rules cell log) (log_box rules cell log)
 
 -- a number that 32 bits hold
 pub record IsWord (z : ℤ) : Type 0 where
   pub low : pos 0 ≤ℤ z
   pub high : z <ℤ pos (2 ^ 32)
 
--- bounds that 20 bytes hold
+-- bounds that 28 bytes hold
 pub record IsPackable (bounds : LogBounds) : Type 0 where
+  pub column : IsWord bounds.from.x
+  pub line : IsWord bounds.from.y
   pub speed : bounds.speed < 2 ^ 32
   pub x1 : IsWord bounds.area.x1
   pub y1 : IsWord bounds.area.y1

@@ -1,4 +1,4 @@
--- Bounds in 20 bytes: a speed, the least corner of a box, and how far the box reaches from there.
+-- Bounds in 28 bytes: a cell, a speed, the least corner of a box, and how far the box reaches from there.
 use Rattle.std.specs.Prelude.{◌≡◌, ℕ, ◌+◌, ◌^◌, ◌<◌, ℤ, pos, ◌+ℤ◌, ◌-ℤ◌, unsigned_abs}
 use Rattle.std.proofs.Common.{arith, refl}
 use Rattle.std.proofs.lemmas.Int.{ints}
@@ -33,6 +33,8 @@ far-back first far = omega (arith, ints)
 pub packed-inside : (inside : Inside) → IsShort inside.x inside.y inside.columns inside.lines →
     let area = reaching_box inside.x inside.y inside.columns inside.lines in
     let given : Inside = record {
+      column = inside.column;
+      line = inside.line;
       speed = inside.speed;
       x = unsigned_abs area.x1;
       y = unsigned_abs area.y1;

@@ -8,6 +8,8 @@ use track_types::{Cell, CellBox};
 /// What bounds a log, or its first symbols.
 #[derive(Clone, Copy, Debug, PartialEq, Eq)]
 pub struct LogBounds {
+    /// The cell of the anchor, from which the log begins.
+    pub from: Cell,
     /// How many cells an instant the object gets away from its anchor at most: how far the placed box of a symbol gets
     /// from the anchor, divided by how many instants after the anchor the symbol begins, rounded up.
     pub speed: u64,
@@ -18,28 +20,32 @@ pub struct LogBounds {
 impl LogBounds {
     /// The bounds of no symbol, from the cell of an anchor.
     pub fn of(cell: Cell) -> LogBounds
+        ensures from { result.from ≡ cell }
         ensures speed { result.speed ≡ 0 }
         ensures area { result.area ≡ cell_box cell }
     {
         LogBounds {
+            from: cell,
             speed: 0,
             area: CellBox::of(cell),
         }
     }
 
     /// The bounds with one symbol more, whose box is moved to the cell after the symbols before it. These stand for
-    /// `before` instants, and the anchor is at `from`.
-    pub fn with(self, from: Cell, cell: Cell, before: u64, hull: &Option<CellBox>) -> LogBounds
-        requires from { IsCellWithin from }
+    /// `before` instants.
+    pub fn with(self, cell: Cell, before: u64, hull: &Option<CellBox>) -> LogBounds
+        requires from { IsCellWithin self.from }
         requires column { IsReachable cell.x }
         requires line { IsReachable cell.y }
         requires before { before < 2 ^ 60 }
         requires hull { IfSome hull.now IsBoxWithin }
-        ensures speed { result.speed ≡ max self.speed (hull_speed from cell before hull.now) }
+        ensures from { result.from ≡ self.from }
+        ensures speed { result.speed ≡ max self.speed (hull_speed self.from cell before hull.now) }
         ensures area { result.area ≡ with_hull self.area cell hull.now }
     {
         LogBounds {
-            speed: raised(self.speed, from, cell, before, hull),
+            from: self.from,
+            speed: raised(self.speed, self.from, cell, before, hull),
             area: with_hull(self.area, cell, hull),
         }
     }

@@ -1,6 +1,6 @@
 -- A table of entries that grows symbol by symbol.
 use Rattle.std.specs.Prelude.{◌≡◌, ℕ, ◌+◌, ◌<◌, length}
-use Rattle.rule_store.specs.View.{RulesView}
+use Rattle.rule_store.specs.View.{RulesView, symbols_in}
 use Rattle.rule_store.specs.Flaws.{rule_parts}
 use Rattle.rule_store.specs.Stored.{AreEntries}
 use Rattle.rule_store.specs.declared.entry_table.EntryTable.{EntryTable}
@@ -14,6 +14,11 @@ pub record IsTableOf (view : RulesView) (table : EntryTable) : Type 0 where
   pub height : table.height ≡ view.height
   pub period : table.period ≡ view.period
   pub entries : AreEntries view table.entries.items
+
+-- the table has the entries of all symbols of the rules, and judges by their height and period
+pub record IsWholeTable (view : RulesView) (table : EntryTable) : Type 0 where
+  pub known : IsTableOf view table
+  pub all : symbols_of table ≡ symbols_in view
 
 -- of these rules, the table has the entries of all symbols below rule j, which has these parts
 pub record IsNextRule (view : RulesView) (table : EntryTable) (j : ℕ) (parts : ℕ × ℕ) : Type 0 where

@@ -21,8 +21,8 @@ use track_types::Memory;
 #[derive(Drop)]
 pub struct EntryTable {
     entries: Vec<PackedEntry>,
-    height: u32,
-    period: u32,
+    pub(crate) height: u32,
+    pub(crate) period: u32,
     ghost height_fits: { height ≤ MAX_HEIGHT },
     ghost some: { 0 < period },
     ghost period_fits: { period ≤ MAX_PERIOD },

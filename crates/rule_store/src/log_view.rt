@@ -1,9 +1,9 @@
-ghost use Rattle.std.specs.Prelude.{◌≡◌, ◌+◌, ◌^◌, ◌<◌, ◌≤◌, length, slice_index};
+ghost use Rattle.std.specs.Prelude.{◌≡◌, ◌+◌, ◌^◌, ◌<◌, ◌≤◌, length, slice_index, IsTrue};
+ghost use Rattle.step_count.specs.Reads.{ofSymbol};
 
 use crate::entry::Entry;
 use crate::store::RuleStore;
-use std::sync::ledger::Ledger;
-use step_count::Steps;
+use step_count::{Reads, Steps};
 
 /// The log of a block: a range of a store's symbols, with the store's rules.
 #[derive(Clone, Copy)]
@@ -46,8 +46,9 @@ impl<'a> LogView<'a> {
     }
 
     /// The entry of the log's symbol at a place below its length, by one read.
-    pub fn entry<L: Ledger>(&self, i: u32, steps: &mut Steps<L>) -> Entry
-        requires { i < length (log_of self.now) }
+    pub fn entry<L: Reads>(&self, i: u32, steps: &mut Steps<L>) -> Entry
+        requires within { i < length (log_of self.now) }
+        requires may { IsTrue (L.may (ofSymbol (self.now.from + i))) }
         ensures value { result ≡ entry_of self.now.rules.now (slice_index (log_of self.now) i) }
         ensures within { slice_index (log_of self.now) i < symbols_in self.now.rules.now }
         ensures reach { IsEntryWithin result }

@@ -1,10 +1,12 @@
 ghost use Rattle.std.specs.Prelude.{◌≡◌, ◌+◌, ◌<◌, ◌≤◌, ◌^◌, None, Some, length, max, fold, slice_get};
-ghost use Rattle.std.specs.Prelude.{nat_le, IfErr, IfOk, OnOk};
+ghost use Rattle.std.specs.Prelude.{nat_le, IfErr, IfOk, IsTrue, OnOk};
+ghost use Rattle.step_count.specs.Reads.{ofRule, ofSymbol};
 ghost use Rattle.rule_store.specs.View.{rules_with, symbols_in, AreShapedRules};
 ghost use Rattle.rule_store.specs.Expansion.{depth_in, depth_of};
 ghost use Rattle.rule_store.specs.Entry.{entry_of, IsEntryWithin};
 ghost use Rattle.rule_store.specs.Flaws.{rules_flaw, AreRules, IsRuleFaultFor, left_of, right_of};
 ghost use Rattle.rule_store.specs.Stored.{IsEntryOf, IsReadRule};
+ghost use Rattle.rule_store.specs.Table.{IsWholeTable};
 ghost use Rattle.rule_store.specs.Cost.{parts_reads};
 
 use crate::entry::Entry;
@@ -15,8 +17,7 @@ use crate::packed_entry::PackedEntry;
 use crate::raw_rules::RawRules;
 use std::alloc::Global;
 use std::marker::Model;
-use std::sync::ledger::Ledger;
-use step_count::{CountedList, Steps};
+use step_count::{CountedList, Reads, Steps};
 use track_types::{List32, List64, PairList};
 
 /// A grammar over movements, with an entry for each of its symbols, and the symbols of all logs.
@@ -113,6 +114,34 @@ impl RuleStore {
         })
     }
 
+    /// The rules of an index that are known to have no flaw, by a table of the entries of all their symbols. The table says the
+    /// height of the grid and the length of a period.
+    ///
+    /// It judges nothing again, so it does not go over the stored symbols. It takes no memory.
+    pub fn of_table(
+        alphabet: List64,
+        rules: PairList,
+        symbols: List32,
+        table: EntryTable,
+    ) -> RuleStore
+        requires rules { AreRules (rules_with alphabet rules symbols table.height table.period) }
+        requires table { IsWholeTable (rules_with alphabet rules symbols table.height table.period) table }
+        ensures { result ≡ rules_with alphabet rules symbols table.height table.period }
+    {
+        let (height, period) = (table.height, table.period);
+        let entries = table.into_entries();
+        let depth = greatest_depth(entries.as_slice());
+        RuleStore {
+            alphabet: CountedList::new(alphabet.into_vec()),
+            rules: CountedList::new(rules.into_vec()),
+            symbols: CountedList::new(symbols.into_vec()),
+            entries,
+            depth,
+            height,
+            period,
+        }
+    }
+
     /// The summary of a symbol, which is below the number of terminals and rules. It reads nothing
     /// that is counted.
     pub fn entry(&self, symbol: u32) -> Entry
@@ -164,9 +193,10 @@ impl RuleStore {
     }
 
     /// The entries of the two parts of a rule, left and right, by one read. The symbol is a rule's.
-    pub fn parts<L: Ledger>(&self, symbol: u32, steps: &mut Steps<L>) -> (Entry, Entry)
+    pub fn parts<L: Reads>(&self, symbol: u32, steps: &mut Steps<L>) -> (Entry, Entry)
         requires rule { length self.now.alphabet ≤ symbol }
         requires within { symbol < symbols_in self.now }
+        requires may { IsTrue (L.may (ofRule symbol)) }
         ensures left { result.0 ≡ entry_of self.now (left_of self.now symbol) }
         ensures right { result.1 ≡ entry_of self.now (right_of self.now symbol) }
         ensures left_below { left_of self.now symbol < symbol }
@@ -202,8 +232,9 @@ impl RuleStore {
     }
 
     // The stored symbol at a place, by one read.
-    pub(crate) fn symbol_at<L: Ledger>(&self, place: u32, steps: &mut Steps<L>) -> u32
-        requires { place < length self.now.symbols }
+    pub(crate) fn symbol_at<L: Reads>(&self, place: u32, steps: &mut Steps<L>) -> u32
+        requires within { place < length self.now.symbols }
+        requires may { IsTrue (L.may (ofSymbol place)) }
         ensures value { slice_get self.now.symbols place ≡ Some result }
         ensures within { result < symbols_in self.now }
         ensures cost { steps.new ≡ steps.old + 1 }
@@ -212,9 +243,10 @@ impl RuleStore {
     }
 
     // The two parts of a rule, by one read.
-    fn read_rule<L: Ledger>(&self, symbol: u32, steps: &mut Steps<L>) -> (u32, u32)
+    fn read_rule<L: Reads>(&self, symbol: u32, steps: &mut Steps<L>) -> (u32, u32)
         requires rule { length self.now.alphabet ≤ symbol }
         requires within { symbol < symbols_in self.now }
+        requires may { IsTrue (L.may (ofRule symbol)) }
         ensures parts { IsReadRule self.now symbol result }
         ensures cost { steps.new ≡ steps.old + 1 }
     {

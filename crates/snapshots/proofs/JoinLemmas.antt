@@ -22,7 +22,7 @@ use Rattle.snapshots.specs.Sound.{IsSnapshot}
 use Rattle.snapshots.specs.Speed.{blocks_speed, speed_of}
 use Rattle.snapshots.specs.Stores.{AreOf, AreTracks}
 use Rattle.snapshots.specs.Tracks.{blocks_by_leaf}
-use Rattle.snapshots.specs.TrackTree.{IsKept}
+use Rattle.snapshots.specs.TrackTree.{IsKept, IsOfPeriod}
 use Rattle.snapshots.specs.declared.track_tree.TrackTree.{TrackTree}
 use Rattle.snapshots.proofs.GetterLemmas.{snapshot-at}
 use Rattle.snapshots.specs.View.{SnapshotView}
@@ -177,8 +177,9 @@ module _ (parts : Parts) (rules : RulesView) (snaps : List SnapshotView) (number
   -- and what is kept of its tracks is one more
   pub turn-tracks : (tracks : List (Option (Box TrackTree))) (kept : Option (Box TrackTree))
       → AreTracks parts number tracks
-      → IsKept item.frame rules (blocks_by_leaf item) kept → AreTracks parts (number + 1) (tracks ++ kept ∷ [])
-  turn-tracks tracks kept are its =
+      → IsKept item.frame rules (blocks_by_leaf item) kept → IsOfPeriod number kept
+      → AreTracks parts (number + 1) (tracks ++ kept ∷ [])
+  turn-tracks tracks kept are its numbered =
       let here : IsKept parts.frame (rules_in parts) (blocks_by_leaf (snapshot_in parts number)) kept =
       subst (λ (view : SnapshotView). IsKept view.frame (rules_in parts) (blocks_by_leaf view) kept) turn.item_is
       (subst (λ r. IsKept item.frame r (blocks_by_leaf item) kept) turn.of.rules_are its) in
@@ -195,6 +196,17 @@ module _ (parts : Parts) (rules : RulesView) (snaps : List SnapshotView) (number
               ∙ get_or-append_seam tracks kept [] None in
               subst (IsKept parts.frame (rules_in parts) (blocks_by_leaf (snapshot_in parts k))) (sym last)
               (subst (λ n. IsKept parts.frame (rules_in parts) (blocks_by_leaf (snapshot_in parts n)) kept) same here)
+        ];
+        numbers = λ k below. elim (cases_lt k number) [
+          | inl less ↦
+              subst (IsOfPeriod k) (sym (get_or_append_left tracks (kept ∷ []) None k (omega (arith, are.long))))
+              (are.numbers k less)
+          | inr most ↦
+              let same : number ≡ k = omega arith in
+              let last : get_or (tracks ++ kept ∷ []) k None ≡ kept =
+              ap (λ n. get_or (tracks ++ kept ∷ []) n None) (sym same ∙ sym are.long)
+              ∙ get_or-append_seam tracks kept [] None in
+              subst (IsOfPeriod k) (sym last) (subst (λ n. IsOfPeriod n kept) same numbered)
         ];
       }
 

@@ -1,5 +1,6 @@
 -- Laws for callers.
 pub mod BlocksLemmas
+pub mod NeedsLemmas
 pub mod SoundLemmas
 -- The parts, the blocks and the places of a period.
 mod OrderLemmas

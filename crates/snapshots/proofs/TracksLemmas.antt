@@ -36,7 +36,7 @@ use Rattle.std.specs.Global.{Box}
 use Rattle.std.proofs.Math.Bool.{and_comm}
 use Rattle.snapshots.specs.Parts.{rules_in, snapshot_in}
 use Rattle.snapshots.specs.Stores.{AreStores}
-use Rattle.snapshots.specs.TrackTree.{begin_of, morton_of_block, length_and_index, AreKept, IsKept}
+use Rattle.snapshots.specs.TrackTree.{begin_of, morton_of_block, length_and_index, AreKept, IsKept, IsOfPeriod}
 use Rattle.snapshots.specs.TrackWalk.{block_kept, corner_of, tracks_budget, tracks_left, blocks_budget, blocks_left}
 use Rattle.snapshots.specs.declared.tracks.Tracks.{Tracks}
 use Rattle.snapshots.specs.View.{SnapshotView, all_blocks, block_at, tree_in}
@@ -201,6 +201,14 @@ module _ {S : Type 0} (squares boxes : S → CellBox → Bool) where
   tracks_budget-is tracks = refl
 
 -- what is kept of a period
+pub numbers-at : (parts : Parts) (rules : RulesView) (snaps : List SnapshotView) (speeds : List ℕ)
+    (tracks : List (Option (Box TrackTree))) (number : ℕ) (d : Option (Box TrackTree))
+    → AreStores parts rules snaps speeds tracks
+    → number < periods_of parts.frame → IsOfPeriod number (get_or tracks number d)
+numbers-at parts rules snaps speeds tracks number d are within =
+    subst (IsOfPeriod number) (sym (get_or_default tracks number d None (omega (arith, are.tracks_are.long, within))))
+    (are.tracks_are.numbers number within)
+
 pub tracks-at : (parts : Parts) (rules : RulesView) (snaps : List SnapshotView) (speeds : List ℕ)
     (tracks : List (Option (Box TrackTree))) (number : ℕ) (d : Option (Box TrackTree))
     → AreStores parts rules snaps speeds tracks

@@ -16,6 +16,7 @@ pub mod TrackTree
 pub mod Found
 pub mod TrackWalk
 pub mod IndexCost
+pub mod Needs
 pub mod Stores
 pub mod Bounded
 pub mod Ahead

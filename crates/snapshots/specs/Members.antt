@@ -7,8 +7,9 @@ use Rattle.snapshots.specs.declared.anchored.Anchored.{Anchored}
 use Rattle.snapshots.specs.declared.next.Next.{Next}
 use Rattle.snapshots.specs.declared.next.Next.TheVariants.{First, Place, End}
 
--- the blocks that are left, and a bound on the reads that are still to be made for them
+-- the period, the blocks that are left, and a bound on the reads that are still to be made for them
 pub record MembersView : Type 0 where
+  pub period : ℕ
   pub blocks : List Anchored
   pub reads : ℕ
 
@@ -31,6 +32,7 @@ first_place_reads End = 0
 -- the view of such a walk
 abbrev pub members_of : SnapshotView → ℕ → Next → MembersView
 members_of view leaf next = record {
+  period = view.number;
   blocks = members_left view leaf next;
   reads = first_place_reads next + block_reads * length (members_left view leaf next);
 }

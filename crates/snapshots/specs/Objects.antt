@@ -1,6 +1,7 @@
 -- What is left of a walk over the blocks whose anchors lie in squares that pass a test.
 use Rattle.std.specs.Prelude.{◌≡◌, ℕ, ◌+◌, ◌*◌, Bool, List, [], ◌++◌, length, filter, Option, None, Some}
 use Rattle.std.specs.List.{flat_map, sum_by}
+use Rattle.step_count.specs.Reads.{Read, is_of_period}
 use Rattle.track_types.specs.declared.cell.Cell.{Cell}
 use Rattle.track_types.specs.declared.cell_box.CellBox.{CellBox}
 use Rattle.k2_tree.specs.Pruning.{passes_at}
@@ -44,6 +45,10 @@ begun_left (Some members) = members.blocks
 abbrev pub begun_reads : Option MembersView → ℕ
 begun_reads None = 0
 begun_reads (Some members) = members.reads
+
+-- the reads that are needed for them
+abbrev pub objects_needs : {F : Type 0} → ObjectsIn F → Read → Bool
+objects_needs objects = is_of_period objects.snapshot.now.number
 
 module _ {F : Type 0} (keeps : F → CellBox → Bool) where
   -- the blocks that are left

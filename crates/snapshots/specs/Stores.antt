@@ -12,7 +12,7 @@ use Rattle.snapshots.specs.Parts.{numbers_in, rules_in, snapshot_in, start_in}
 use Rattle.snapshots.specs.SoundParts.{IsValid}
 use Rattle.snapshots.specs.Speed.{speed_of}
 use Rattle.snapshots.specs.Tracks.{blocks_by_leaf}
-use Rattle.snapshots.specs.TrackTree.{IsKept}
+use Rattle.snapshots.specs.TrackTree.{IsKept, IsOfPeriod}
 use Rattle.snapshots.specs.declared.track_tree.TrackTree.{TrackTree}
 
 -- the parts of a snapshot
@@ -46,6 +46,7 @@ pub record AreTracks (parts : Parts) (count : ℕ) (tracks : List (Option (Box T
   pub long : length tracks ≡ count
   pub kept : (number : ℕ) → number < count → IsKept parts.frame (rules_in parts)
       (blocks_by_leaf (snapshot_in parts number)) (slice_index_or tracks number None)
+  pub numbers : (number : ℕ) → number < count → IsOfPeriod number (slice_index_or tracks number None)
 
 -- what holds of all stores: the parts are valid, and rules, snapshots, speeds and tracks are theirs
 pub record AreStores (parts : Parts) (rules : RulesView) (snaps : List SnapshotView) (speeds : List ℕ)

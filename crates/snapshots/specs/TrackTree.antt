@@ -1,5 +1,5 @@
 -- What is kept of the tracks of a period's blocks, in leaf order.
-use Rattle.std.specs.Prelude.{◌≡◌, ℕ, ◌-◌, ◌*◌, List, [], map, Option, None, Some}
+use Rattle.std.specs.Prelude.{◌≡◌, ℕ, ◌-◌, ◌*◌, List, [], map, Option, None, Some, ⊤}
 use Rattle.std.specs.Global.{Box}
 use Rattle.track_types.specs.Frame.{wide_of}
 use Rattle.track_types.specs.declared.frame.Frame.{Frame}
@@ -42,6 +42,11 @@ pub record AreKept (frame : Frame) (rules : RulesView) (blocks : List Anchored) 
   pub places : kept.tree.places ≡ block_places frame rules blocks
   pub begins : kept.begins ≡ map begin_of blocks
   pub logs : kept.logs ≡ map length_and_index blocks
+
+-- what is kept is of this period
+abbrev pub IsOfPeriod : ℕ → Option (Box TrackTree) → Type 0
+IsOfPeriod number None = ⊤
+IsOfPeriod number (Some kept) = kept.value.number.value ≡ number
 
 -- where nothing is kept, there is no block
 abbrev pub IsKept : Frame → RulesView → List Anchored → Option (Box TrackTree) → Type 0

@@ -1,5 +1,6 @@
 -- What is left of a walk over the blocks of a period that may hold what is sought.
-use Rattle.std.specs.Prelude.{ℕ, ◌+◌, ◌*◌, Bool, List, [], length, map, slice_index, slice_index_or, Option, None, Some}
+use Rattle.std.specs.Prelude.{ℕ, ◌+◌, ◌*◌, Bool, false, List, [], length, map, slice_index, slice_index_or, Option, None, Some}
+use Rattle.step_count.specs.Reads.{Read, is_of_period}
 use Rattle.track_types.specs.declared.cell.Cell.{Cell}
 use Rattle.track_types.specs.declared.cell_box.CellBox.{CellBox}
 use Rattle.k2_tree.specs.Areas.{area_at}
@@ -24,6 +25,20 @@ block_kept kept place = record {
   from = (slice_index_or kept.begins place (0, 0)).1;
   len = (slice_index_or kept.logs place (0, 0)).0;
 }
+
+module _ {S : Type 0} where
+  -- the reads that are needed for the blocks that are left of kept ones
+  abbrev pub kept_needs : KeptWalk S → Read → Bool
+  kept_needs walk = is_of_period walk.kept.now.number.value
+
+  -- the reads that are needed for the blocks that are left
+  abbrev pub blocks_needs : Option (KeptWalk S) → Read → Bool
+  blocks_needs None read = false
+  blocks_needs (Some walk) read = kept_needs walk read
+
+  -- the reads that are needed for the blocks that are left of a period's
+  abbrev pub tracks_needs : Tracks S → Read → Bool
+  tracks_needs tracks = blocks_needs tracks.walk
 
 module _ {S : Type 0} (squares boxes : S → CellBox → Bool) where
   -- the blocks that are left of kept ones

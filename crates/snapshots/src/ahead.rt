@@ -1,11 +1,11 @@
 ghost use Rattle.std.specs.Prelude.{◌≡◌, ◌+◌, ◌<◌, ◌≤◌, length};
+ghost use Rattle.step_count.specs.Reads.{is_of_log, ReadsWithin};
 ghost use Rattle.rule_store.specs.Entry.{IsEntryWithin};
 ghost use Rattle.snapshots.specs.Ahead.{stored_entry, AreStored};
 
 use rule_store::{Entry, RuleStore};
 use std::marker::Model;
-use std::sync::ledger::Ledger;
-use step_count::Steps;
+use step_count::{Reads, Steps};
 
 // How many entries are read before the first of them is used.
 const AHEAD: usize = 16;
@@ -65,8 +65,9 @@ impl<'a> Ahead<'a> {
     }
 
     /// The entry of the next symbol, which comes before the end.
-    pub fn next<L: Ledger>(&mut self, steps: &mut Steps<L>) -> Entry
-        requires { self.old.place < self.old.end }
+    pub fn next<L: Reads>(&mut self, steps: &mut Steps<L>) -> Entry
+        requires within { self.old.place < self.old.end }
+        requires may { ReadsWithin is_of_log L.may }
         ensures value { result ≡ stored_entry self.old.rules self.old.place }
         ensures reach { IsEntryWithin result }
         ensures rules { self.new.rules ≡ self.old.rules }
@@ -82,8 +83,9 @@ impl<'a> Ahead<'a> {
     }
 
     // Reads the next entries, if all that were read are used.
-    fn read_on<L: Ledger>(&mut self, steps: &mut Steps<L>)
-        requires { self.old.place < self.old.end }
+    fn read_on<L: Reads>(&mut self, steps: &mut Steps<L>)
+        requires within { self.old.place < self.old.end }
+        requires may { ReadsWithin is_of_log L.may }
         ensures rules { self.new.rules ≡ self.old.rules }
         ensures place { self.new.place ≡ self.old.place }
         ensures some { self.new.place < self.new.read }
@@ -102,7 +104,7 @@ impl<'a> Ahead<'a> {
 }
 
 // Reads the entries of so many stored symbols from a place on into the first places of a table.
-fn read_entries<L: Ledger>(
+fn read_entries<L: Reads>(
     rules: &RuleStore,
     from: u32,
     count: u32,
@@ -111,6 +113,7 @@ fn read_entries<L: Ledger>(
 )
     requires within { from + count ≤ length rules.now.symbols }
     requires few { count ≤ 16 }
+    requires may { ReadsWithin is_of_log L.may }
     ensures stored { AreStored rules.now entries.new from count }
     ensures cost { steps.new ≡ steps.old + count }
 {

@@ -1,36 +1,38 @@
-ghost use Rattle.std.specs.Prelude.{◌≡◌, ◌+◌, ◌≤◌, fold, length, map, max, All, IfOk, OnOk};
+ghost use Rattle.std.specs.Prelude.{◌≡◌, ◌+◌, ◌≤◌, fold, length, map, max, All, IfOk, IsTrue, OnOk};
+ghost use Rattle.step_count.specs.Reads.{ofPeriod};
 ghost use Rattle.track_types.specs.Boxes.{moved_box};
 ghost use Rattle.track_types.specs.Near.{IsNear};
 ghost use Rattle.box_tree.specs.Boxes.{IsFrom};
 ghost use Rattle.rule_store.specs.View.{RulesView};
-ghost use Rattle.snapshots.specs.Bounded.{blocks_bounds};
+ghost use Rattle.snapshots.specs.Bounded.{blocks_bounds, AreFromAnchors};
 ghost use Rattle.snapshots.specs.IndexCost.{blocks_reads};
 ghost use Rattle.snapshots.specs.Sound.{IsSnapshot};
 ghost use Rattle.snapshots.specs.Speed.{blocks_speed};
-ghost use Rattle.snapshots.specs.TrackTree.{IsKept};
+ghost use Rattle.snapshots.specs.TrackTree.{IsKept, IsOfPeriod};
 ghost use Rattle.snapshots.specs.Tracks.{blocks_by_leaf};
 ghost use Rattle.snapshots.specs.View.{all_blocks};
 
-use crate::finding::find_blocks;
+use crate::finding::find_bounded;
 use crate::judged::Judged;
 use crate::keeping::keep_tracks;
 use crate::snapshot::Snapshot;
 use log_bounds::PackedBounds;
 use std::alloc::Global;
-use std::sync::ledger::Ledger;
-use step_count::Steps;
+use step_count::{Reads, Steps};
 use track_types::{Cell, CellBox, Memory};
 
 /// Finds by what bounds the logs of a period's blocks, which have no flaw, what is kept of the period. The bounds are
 /// given by object, and their cells are counted from the base of the grid. It reads no symbol, and what leads to the
 /// blocks.
-pub fn keep_bounded<L: Ledger>(
+pub fn keep_bounded<L: Reads>(
     alloc: Global,
     snapshot: &Snapshot,
+    number: u32,
     bounds: &[PackedBounds],
     steps: &mut Steps<L>,
 ) -> Result<Judged, Memory>
-    requires { length bounds.now ≡ length (all_blocks snapshot.now) }
+    requires bounds { AreFromAnchors snapshot.now bounds.now }
+    requires may { IsTrue (L.may (ofPeriod snapshot.now.number)) }
     ensures snapshot { OnOk result (IsSnapshot snapshot.now) }
     ensures speed { IfOk result (λ judged. (rules : RulesView)
         → bounds.now ≡ blocks_bounds rules snapshot.now
@@ -38,11 +40,12 @@ pub fn keep_bounded<L: Ledger>(
     ensures tracks { IfOk result (λ judged. (rules : RulesView)
         → bounds.now ≡ blocks_bounds rules snapshot.now
         → IsKept snapshot.now.frame rules (blocks_by_leaf snapshot.now) judged.tracks) }
+    ensures period { IfOk result (λ judged. IsOfPeriod number judged.tracks) }
     ensures cost { steps.new ≤ steps.old + blocks_reads snapshot.now }
 {
-    let found = find_blocks(alloc, snapshot, steps)?;
+    let found = find_bounded(alloc, snapshot, bounds, steps)?;
     let areas = areas_of(alloc, bounds, snapshot.frame().base)?;
-    let tracks = keep_tracks(alloc, snapshot, &found, &areas)?;
+    let tracks = keep_tracks(alloc, snapshot, number, &found, &areas)?;
     let speed = greatest_speed(bounds);
     Ok(Judged { speed, tracks })
 }

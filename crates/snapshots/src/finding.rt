@@ -1,14 +1,17 @@
-ghost use Rattle.std.specs.Prelude.{◌≡◌, ◌+◌, ◌≤◌, length, IfOk};
+ghost use Rattle.std.specs.Prelude.{◌≡◌, ◌+◌, ◌≤◌, length, IfOk, IsTrue};
+ghost use Rattle.step_count.specs.Reads.{ofPeriod};
 ghost use Rattle.object_perm.specs.Permutation.{PermutesPlaces};
+ghost use Rattle.snapshots.specs.Bounded.{AreFromAnchors};
 ghost use Rattle.snapshots.specs.Found.{AreFound, ArePut};
 ghost use Rattle.snapshots.specs.IndexCost.{blocks_reads};
 
 use crate::anchored::Anchored;
 use crate::snapshot::Snapshot;
+use k2_tree::morton;
+use log_bounds::PackedBounds;
 use std::alloc::Global;
-use std::sync::ledger::Ledger;
-use step_count::Steps;
-use track_types::Memory;
+use step_count::{Reads, Steps};
+use track_types::{Frame, Memory};
 
 /// The blocks of a period.
 #[derive(Drop)]
@@ -24,11 +27,12 @@ pub struct FoundBlocks {
 /// Finds the blocks of a period, by the list of the tree's cells, which is made level by level. This makes fewer
 /// reads than a search for each object. Memory is taken for the lists, and while the call runs for those of the cells
 /// and of the objects that are present.
-pub fn find_blocks<L: Ledger>(
+pub fn find_blocks<L: Reads>(
     alloc: Global,
     snapshot: &Snapshot,
     steps: &mut Steps<L>,
 ) -> Result<FoundBlocks, Memory>
+    requires may { IsTrue (L.may (ofPeriod snapshot.now.number)) }
     ensures found { IfOk result (AreFound snapshot.now) }
     ensures cost { steps.new ≤ steps.old + blocks_reads snapshot.now }
 {
@@ -46,6 +50,37 @@ pub fn find_blocks<L: Ledger>(
         if snapshot.is_last(place, steps) {
             leaf += 1;
         }
+    }
+    Ok(FoundBlocks {
+        by_leaf,
+        codes,
+        ranks,
+    })
+}
+
+/// Finds the same blocks by bounds that begin at their anchors, by object, counted from the base of the grid. So it does
+/// not go over the tree. Memory is taken for the lists, and while the call runs for that of the objects that are present.
+pub fn find_bounded<L: Reads>(
+    alloc: Global,
+    snapshot: &Snapshot,
+    bounds: &[PackedBounds],
+    steps: &mut Steps<L>,
+) -> Result<FoundBlocks, Memory>
+    requires bounds { AreFromAnchors snapshot.now bounds.now }
+    requires may { IsTrue (L.may (ofPeriod snapshot.now.number)) }
+    ensures found { IfOk result (AreFound snapshot.now) }
+    ensures cost { steps.new ≤ steps.old + blocks_reads snapshot.now }
+{
+    let Frame { height, base, .. } = *snapshot.frame();
+    let present = snapshot.present(alloc, steps)?;
+    let mut by_leaf = Vec::with_capacity(alloc, present.len())?;
+    let mut codes = Vec::with_capacity(alloc, present.len())?;
+    let mut ranks = Vec::with_capacity(alloc, present.len())?;
+    for place in 0..present.len() as u32 {
+        let (rank, block) = snapshot.block_bounded(&present, bounds, place, steps);
+        by_leaf.push(block)?;
+        codes.push(morton(block.cell, height, base))?;
+        ranks.push(rank)?;
     }
     Ok(FoundBlocks {
         by_leaf,

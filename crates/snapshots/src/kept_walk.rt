@@ -5,8 +5,7 @@ ghost use Rattle.std.proofs.Props.{props};
 use crate::anchored::Anchored;
 use crate::track_tree::TrackTree;
 use box_tree::{BoxWalk, Search};
-use std::sync::ledger::Ledger;
-use step_count::Steps;
+use step_count::{Reads, Steps};
 use track_types::Lazy;
 
 /// The blocks of those that are kept that may hold what is sought, in leaf order.
@@ -18,7 +17,7 @@ pub struct KeptWalk<'a, S> {
 }
 
 impl<'a, S: Search> Lazy for KeptWalk<'a, S> {
-    ghost use Rattle.snapshots.specs.TrackWalk.{kept_budget, kept_left};
+    ghost use Rattle.snapshots.specs.TrackWalk.{kept_budget, kept_left, kept_needs};
 
     type Item = Anchored;
 
@@ -26,7 +25,9 @@ impl<'a, S: Search> Lazy for KeptWalk<'a, S> {
 
     ghost budget = { kept_budget S.squares S.boxes };
 
-    fn draw<L: Ledger>(&mut self, steps: &mut Steps<L>) -> Option<Anchored> {
+    ghost needs = { kept_needs };
+
+    fn draw<L: Reads>(&mut self, steps: &mut Steps<L>) -> Option<Anchored> {
         let place = self.walk.draw(steps)?;
         Some(self.kept.block(place, steps))
     }

@@ -1,5 +1,6 @@
 ghost use Rattle.std.specs.Prelude.{◌≡◌, ◌+◌, ◌<◌, ◌≤◌, ◌^◌, None, Some, length, IfErr, IfOk, OnOk};
-ghost use Rattle.std.specs.Prelude.{map, max, sum, pos, ◌≤ℤ◌, IfSome};
+ghost use Rattle.std.specs.Prelude.{map, max, sum, pos, ◌≤ℤ◌, IfSome, IsTrue};
+ghost use Rattle.step_count.specs.Reads.{is_of_log, ofPeriod, ReadsWithin};
 ghost use Rattle.track_types.specs.Frame.{instants_in, periods_of, IsFrame};
 ghost use Rattle.track_types.specs.Near.{IsBoxWithin, IsCellWithin, IsNear, IsWithin};
 ghost use Rattle.track_types.specs.declared.limit.TheConstants.{MAX_HEIGHT, MAX_SYMBOLS};
@@ -11,7 +12,7 @@ ghost use Rattle.snapshots.specs.IndexCost.{blocks_reads};
 ghost use Rattle.log_bounds.specs.Bounds.{duration_of_log, IsReachable};
 ghost use Rattle.snapshots.specs.JoinFlaws.{blocks_flaw, has_columns, has_lines, is_along, log_flaw};
 ghost use Rattle.snapshots.specs.JoinFlaws.{off_grid_at, passes_grid};
-ghost use Rattle.snapshots.specs.TrackTree.{IsKept};
+ghost use Rattle.snapshots.specs.TrackTree.{IsKept, IsOfPeriod};
 ghost use Rattle.snapshots.specs.Tracks.{blocks_by_leaf, track_box};
 ghost use Rattle.snapshots.specs.Speed.{block_speed, blocks_speed};
 ghost use Rattle.snapshots.specs.View.{all_blocks};
@@ -27,8 +28,7 @@ use crate::snapshot::Snapshot;
 use log_bounds::LogBounds;
 use rule_store::RuleStore;
 use std::alloc::Global;
-use std::sync::ledger::Ledger;
-use step_count::Steps;
+use step_count::{Reads, Steps};
 use track_types::{Cell, CellBox, Frame, Kind, Memory, Section};
 
 /// What is found of a block by the symbols of its log, which stays in the grid.
@@ -52,7 +52,7 @@ struct JudgedLogs {
 
 /// Judges the logs of all blocks of a snapshot by object, and answers the first flaw, or what is found of the
 /// period, which has this number. It reads each symbol of these logs once, and what leads to the blocks.
-pub fn judge_snapshot<L: Ledger>(
+pub fn judge_snapshot<L: Reads>(
     alloc: Global,
     rules: &RuleStore,
     snapshot: &Snapshot,
@@ -62,11 +62,14 @@ pub fn judge_snapshot<L: Ledger>(
     requires number { number ≡ snapshot.now.number }
     requires symbols { snapshot.now.start + sum snapshot.now.parts.lengths
         ≤ length rules.now.symbols }
+    requires period { IsTrue (L.may (ofPeriod number)) }
+    requires may { ReadsWithin is_of_log L.may }
     ensures exact { OnOk result (blocks_flaw rules.now snapshot.now ≡ None) }
     ensures snapshot { OnOk result (IsSnapshot snapshot.now) }
     ensures speed { IfOk result (λ judged. judged.speed ≡ blocks_speed rules.now snapshot.now) }
     ensures tracks { IfOk result (λ judged.
         IsKept snapshot.now.frame rules.now (blocks_by_leaf snapshot.now) judged.tracks) }
+    ensures period { IfOk result (λ judged. IsOfPeriod number judged.tracks) }
     ensures flaw { IfErr result (λ fault. IsSnapFaultFor (blocks_flaw rules.now snapshot.now) fault) }
     ensures cost { steps.new
         ≤ steps.old + (blocks_reads snapshot.now + sum snapshot.now.parts.lengths) }
@@ -74,7 +77,7 @@ pub fn judge_snapshot<L: Ledger>(
     let found = find_blocks(alloc, snapshot, steps)?;
     let blocks = reordered(alloc, &found.by_leaf, &found.ranks)?;
     let logs = judge_logs(alloc, rules, snapshot, number, &blocks, steps)?;
-    let tracks = keep_tracks(alloc, snapshot, &found, &logs.areas)?;
+    let tracks = keep_tracks(alloc, snapshot, number, &found, &logs.areas)?;
     Ok(Judged {
         speed: logs.speed,
         tracks,
@@ -82,7 +85,7 @@ pub fn judge_snapshot<L: Ledger>(
 }
 
 // Judges the logs of a snapshot's blocks, which are given by object.
-fn judge_logs<L: Ledger>(
+fn judge_logs<L: Reads>(
     alloc: Global,
     rules: &RuleStore,
     snapshot: &Snapshot,
@@ -94,6 +97,7 @@ fn judge_logs<L: Ledger>(
     requires symbols { snapshot.now.start + sum snapshot.now.parts.lengths
         ≤ length rules.now.symbols }
     requires blocks { blocks.now ≡ all_blocks snapshot.now }
+    requires may { ReadsWithin is_of_log L.may }
     ensures exact { OnOk result (blocks_flaw rules.now snapshot.now ≡ None) }
     ensures speed { IfOk result (λ logs. logs.speed ≡ blocks_speed rules.now snapshot.now) }
     ensures areas { IfOk result (λ logs.
@@ -117,7 +121,7 @@ fn judge_logs<L: Ledger>(
 // Judges the log of a block, which has this place among those of the period with this number. It answers what is
 // found of the block, with the greater of its speed and the given one, or the first flaw: a placed box that passes the
 // grid comes before a wrong duration.
-fn judge_log<L: Ledger>(
+fn judge_log<L: Reads>(
     ahead: &mut Ahead<'_>,
     frame: &Frame,
     number: u32,
@@ -135,6 +139,7 @@ fn judge_log<L: Ledger>(
     requires end { block.now.from + block.now.len ≤ ahead.old.end }
     requires read { ahead.old.read ≤ ahead.old.end }
     requires long { block.now.from + block.now.len ≤ MAX_SYMBOLS }
+    requires may { ReadsWithin is_of_log L.may }
     ensures exact { OnOk result (log_flaw frame.now ahead.old.rules number rank block.now ≡ None) }
     ensures flaw { IfErr result (λ fault.
         IsSnapFaultFor (log_flaw frame.now ahead.old.rules number rank block.now) fault) }
@@ -158,7 +163,7 @@ fn judge_log<L: Ledger>(
 
 // Reads the symbols of a block's log once, from the cell of its anchor on. It answers what is found of the block, with
 // the greater of its speed and the given one, or the place of the first symbol whose placed box passes the grid.
-fn read_log<L: Ledger>(
+fn read_log<L: Reads>(
     ahead: &mut Ahead<'_>,
     frame: &Frame,
     block: &Anchored,
@@ -172,6 +177,7 @@ fn read_log<L: Ledger>(
     requires end { block.now.from + block.now.len ≤ ahead.old.end }
     requires read { ahead.old.read ≤ ahead.old.end }
     requires long { block.now.from + block.now.len ≤ MAX_SYMBOLS }
+    requires may { ReadsWithin is_of_log L.may }
     ensures inside { OnOk result
         (off_grid_at frame.now ahead.old.rules block.now.cell (block_log ahead.old.rules block.now) ≡ None) }
     ensures ok { IfOk result (λ summary.
@@ -188,6 +194,7 @@ fn read_log<L: Ledger>(
     let mut cell = block.cell;
     let mut duration = 0;
     let mut bounds = LogBounds {
+        from: block.cell,
         speed: fastest,
         area: CellBox::of(block.cell),
     };
@@ -196,7 +203,7 @@ fn read_log<L: Ledger>(
         if passes_grid(frame, cell, &entry.hull) {
             return Err(place);
         }
-        bounds = bounds.with(block.cell, cell, duration, &entry.hull);
+        bounds = bounds.with(cell, duration, &entry.hull);
         cell = Cell {
             x: cell.x + entry.dx,
             y: cell.y + entry.dy,

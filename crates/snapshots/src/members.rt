@@ -1,4 +1,5 @@
-ghost use Rattle.std.specs.Prelude.{◌≡◌, Some, slice_get};
+ghost use Rattle.std.specs.Prelude.{◌≡◌, ◌++◌, ◌+◌, ◌≤◌, [], Some, slice_get, IfNone, option_to_list};
+ghost use Rattle.step_count.specs.Reads.{is_of_period, ReadsWithin};
 ghost use Rattle.snapshots.specs.View.{tree_in};
 ghost use Rattle.snapshots.specs.Members.{members_of};
 ghost use Rattle.snapshots.specs.declared.next.Next.TheVariants.{First};
@@ -7,14 +8,13 @@ use crate::anchored::Anchored;
 use crate::next::Next;
 use crate::snapshot::Snapshot;
 use std::marker::Model;
-use std::sync::ledger::Ledger;
-use step_count::Steps;
+use step_count::{Reads, Steps};
 use track_types::{Cell, Lazy};
 
 /// The blocks whose anchors are in one cell, by object.
 ///
-/// Contracts see the blocks that are left and a bound on the reads that are still to be made for
-/// them.
+/// Contracts see the period, the blocks that are left and a bound on the reads that are still to be
+/// made for them.
 #[derive(Drop)]
 pub struct Members<'a> {
     snapshot: &'a Snapshot,
@@ -48,13 +48,24 @@ impl<'a> Members<'a> {
 }
 
 impl<'a> Lazy for Members<'a> {
+    ghost use Rattle.step_count.specs.Reads.{is_of_period};
+
     type Item = Anchored;
 
     ghost left = { λ m. m.blocks };
 
     ghost budget = { λ m. m.reads };
 
-    fn draw<L: Ledger>(&mut self, steps: &mut Steps<L>) -> Option<Anchored> {
+    ghost needs = { λ m. is_of_period m.period };
+
+    fn draw<L: Reads>(&mut self, steps: &mut Steps<L>) -> Option<Anchored>
+        requires may { ReadsWithin (is_of_period self.old.period) L.may }
+        ensures found { self.old.blocks ≡ option_to_list result ++ self.new.blocks }
+        ensures none { IfNone result (self.old.blocks ≡ []) }
+        ensures cost { steps.new + self.new.reads ≤ steps.old + self.old.reads }
+        ensures period { self.new.period ≡ self.old.period }
+        ensures needs { ReadsWithin (is_of_period self.new.period) (is_of_period self.old.period) }
+    {
         let place = match self.next {
             Next::First => self.snapshot.first_place(self.leaf, steps),
             Next::Place(place) => place,

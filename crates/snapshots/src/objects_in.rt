@@ -1,4 +1,4 @@
-ghost use Rattle.std.specs.Prelude.{◌≡◌, None};
+ghost use Rattle.std.specs.Prelude.{◌≡◌, None, IfSome};
 ghost use Rattle.k2_tree.specs.Pruned.{pruned_tree};
 ghost use Rattle.snapshots.specs.View.{tree_in};
 ghost use Rattle.std.proofs.Props.{props};
@@ -7,8 +7,7 @@ use crate::anchored::Anchored;
 use crate::members::Members;
 use crate::snapshot::Snapshot;
 use k2_tree::{Keep, Pruned};
-use std::sync::ledger::Ledger;
-use step_count::Steps;
+use step_count::{Reads, Steps};
 use track_types::Lazy;
 
 /// The blocks whose anchors lie in squares that pass a test, by leaf, then by object.
@@ -18,6 +17,7 @@ pub struct ObjectsIn<'a, F> {
     pruned: Pruned<'a, F>,
     members: Option<Members<'a>>,
     ghost same: { pruned_tree pruned ≡ tree_in snapshot.now } by { Prim.hlevel props },
+    ghost begun: { IfSome members (λ m. m.period ≡ snapshot.now.number) } by { Prim.hlevel props },
 }
 
 impl<'a, F> ObjectsIn<'a, F> {
@@ -36,7 +36,7 @@ impl<'a, F> ObjectsIn<'a, F> {
 }
 
 impl<'a, F: Keep> Lazy for ObjectsIn<'a, F> {
-    ghost use Rattle.snapshots.specs.Objects.{objects_budget, objects_left};
+    ghost use Rattle.snapshots.specs.Objects.{objects_budget, objects_left, objects_needs};
 
     type Item = Anchored;
 
@@ -44,7 +44,9 @@ impl<'a, F: Keep> Lazy for ObjectsIn<'a, F> {
 
     ghost budget = { objects_budget F.keeps };
 
-    fn draw<L: Ledger>(&mut self, steps: &mut Steps<L>) -> Option<Anchored> {
+    ghost needs = { objects_needs };
+
+    fn draw<L: Reads>(&mut self, steps: &mut Steps<L>) -> Option<Anchored> {
         loop {
             if let Some(members) = &mut self.members {
                 if let Some(block) = members.draw(steps) {

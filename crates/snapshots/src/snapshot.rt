@@ -1,17 +1,22 @@
 ghost use Rattle.std.specs.Prelude.{◌≡◌, ◌+◌, ◌*◌, ◌<◌, ◌≤◌, ◌^◌, ◌∷◌, false, if◌then◌else◌, length, take, sum, Some, slice_get, slice_index};
-ghost use Rattle.std.specs.Prelude.{All, Bool, None, map, IfErr, IfNone, IfOk, IfSome, OnOk};
+ghost use Rattle.std.specs.Prelude.{All, Bool, None, map, IfErr, IfNone, IfOk, IfSome, IsTrue, OnOk};
+ghost use Rattle.step_count.specs.Reads.{is_of_period, ofPeriod, ReadsWithin};
 ghost use Rattle.snapshots.specs.View.{all_blocks, block_at, block_of, blocks_in, leaf_at, objects_at, tree_in, view_with};
 ghost use Rattle.snapshots.specs.Flaws.{flaw_of, IsSnapFaultFor, IsShapedView};
 ghost use Rattle.snapshots.specs.Sound.{IsBlock, IsSnapshot, IsSoundPeriod};
 ghost use Rattle.snapshots.specs.Stored.{AreStoredBlocks};
 ghost use Rattle.snapshots.specs.Members.{blocks_from, members_left, IsAt};
-ghost use Rattle.snapshots.specs.Objects.{blocks_of, objects_budget, objects_left, objects_of_leaves};
+ghost use Rattle.snapshots.specs.Objects.{blocks_of, objects_budget, objects_left, objects_needs, objects_of_leaves};
 ghost use Rattle.snapshots.specs.Objects.{passing_blocks, wanted_blocks, WeighSame};
 ghost use Rattle.std.specs.List.Sorted.{IsStrictlyIncreasing};
 ghost use Rattle.k2_tree.specs.Pruning.{kept_leaves, square_count, IsKeptFor};
 ghost use Rattle.track_types.specs.declared.cell.Cell.{Cell};
 ghost use Rattle.bit_rank.specs.Cost.{get_reads, select_reads};
 ghost use Rattle.object_perm.specs.Cost.{at_reads};
+ghost use Rattle.std.specs.Prelude.{◌+ℤ◌};
+ghost use Rattle.track_types.specs.Near.{IsNear};
+ghost use Rattle.rule_store.specs.Cells.{cell_with};
+ghost use Rattle.snapshots.specs.Bounded.{AreFromAnchors};
 ghost use Rattle.snapshots.specs.Ones.{first_ones};
 ghost use Rattle.snapshots.specs.Cost.{block_reads, find_reads, first_reads, place_reads, square_reads};
 ghost use Rattle.snapshots.specs.declared.next.Next.TheVariants.{End, Place};
@@ -26,11 +31,11 @@ use crate::objects_in::ObjectsIn;
 use crate::ones::places_of_ones;
 use crate::period_store::PeriodStore;
 use k2_tree::{K2Tree, Keep};
+use log_bounds::PackedBounds;
 use std::alloc::Global;
 use std::marker::Model;
 use std::rc::Rc;
-use std::sync::ledger::Ledger;
-use step_count::Steps;
+use step_count::{Reads, Steps};
 use track_types::{Cell, Frame, Kind, Memory, PeriodParts, Section};
 
 /// A period of an index: which objects have a block in it, and where each of them stands first.
@@ -156,8 +161,9 @@ impl Snapshot {
     /// It goes from the object to its place among the present ones, and by the inverse permutation to its place in leaf
     /// order. Then it climbs the tree from its leaf to the cell. It makes at most `find_reads` of the tree's height. It
     /// takes no memory.
-    pub fn find<L: Ledger>(&self, index: u32, steps: &mut Steps<L>) -> Option<Anchored>
-        requires { index < self.now.objects }
+    pub fn find<L: Reads>(&self, index: u32, steps: &mut Steps<L>) -> Option<Anchored>
+        requires within { index < self.now.objects }
+        requires may { IsTrue (L.may (ofPeriod self.now.number)) }
         ensures value { result ≡ block_of self.now index }
         ensures block { IfSome result (IsBlock self.now) }
         ensures cost { steps.new ≤ steps.old + find_reads self.now.frame.height }
@@ -174,8 +180,9 @@ impl Snapshot {
     }
 
     // The place of an object's block in leaf order, and `None` if and only if the object has none in this period.
-    pub(crate) fn place_of<L: Ledger>(&self, index: u32, steps: &mut Steps<L>) -> Option<u32>
-        requires { index < self.now.objects }
+    pub(crate) fn place_of<L: Reads>(&self, index: u32, steps: &mut Steps<L>) -> Option<u32>
+        requires within { index < self.now.objects }
+        requires may { IsTrue (L.may (ofPeriod self.now.number)) }
         ensures none { IfNone result (block_of self.now index ≡ None) }
         ensures within { IfSome result (λ place. place < length self.now.parts.perm) }
         ensures some { IfSome result (λ place. block_of self.now index ≡ Some (block_at self.now place)) }
@@ -233,6 +240,7 @@ impl Snapshot {
         ensures order { IsStrictlyIncreasing (map (λ block. block.index) result.blocks) }
         ensures cell { All (λ block. block.cell ≡ cell) result.blocks }
         ensures blocks { All (IsBlock self.now) result.blocks }
+        ensures period { result.period ≡ self.now.number }
         ensures budget { result.reads
             ≡ first_reads + block_reads * length (blocks_in self.now leaf) }
     {
@@ -255,6 +263,7 @@ impl Snapshot {
         ensures wanted { (wanted : Cell → Bool) → IsKeptFor (F.keeps keep) wanted
             → WeighSame (wanted_blocks wanted (objects_left F.keeps result))
             (wanted_blocks wanted (all_blocks self.now)) }
+        ensures needs { ReadsWithin (objects_needs result) (is_of_period self.now.number) }
         ensures budget { objects_budget F.keeps result
             ≤ square_reads * square_count (F.keeps keep) (tree_in self.now)
             + block_reads * length (objects_left F.keeps result) }
@@ -275,8 +284,9 @@ impl Snapshot {
     }
 
     // The first place of a leaf in leaf order.
-    pub(crate) fn first_place<L: Ledger>(&self, leaf: u32, steps: &mut Steps<L>) -> u32
-        requires { leaf < length (tree_in self.now).cells }
+    pub(crate) fn first_place<L: Reads>(&self, leaf: u32, steps: &mut Steps<L>) -> u32
+        requires within { leaf < length (tree_in self.now).cells }
+        requires may { IsTrue (L.may (ofPeriod self.now.number)) }
         ensures within { result < length self.now.parts.perm }
         ensures leaf { leaf_at self.now result ≡ leaf }
         ensures places { blocks_in self.now leaf ≡ blocks_from self.now leaf result }
@@ -290,7 +300,7 @@ impl Snapshot {
     }
 
     // The block at a place in leaf order, in whose leaf's cell its anchor is.
-    pub(crate) fn block_in<L: Ledger>(
+    pub(crate) fn block_in<L: Reads>(
         &self,
         place: u32,
         cell: Cell,
@@ -298,6 +308,7 @@ impl Snapshot {
     ) -> Anchored
         requires within { place < length self.now.parts.perm }
         requires cell { slice_get (tree_in self.now).cells (leaf_at self.now place) ≡ Some cell }
+        requires may { IsTrue (L.may (ofPeriod self.now.number)) }
         ensures value { result ≡ block_at self.now place }
         ensures cost { steps.new ≤ steps.old + (at_reads + select_reads) }
     {
@@ -327,11 +338,12 @@ impl Snapshot {
     }
 
     // The places of the present objects among all, ascending.
-    pub(crate) fn present<L: Ledger>(
+    pub(crate) fn present<L: Reads>(
         &self,
         alloc: Global,
         steps: &mut Steps<L>,
     ) -> Result<Vec<u32>, Memory>
+        requires may { IsTrue (L.may (ofPeriod self.now.number)) }
         ensures ok { IfOk result (λ places. places.items
             ≡ first_ones self.now.parts.present (length self.now.parts.perm)) }
         ensures snapshot { IsSnapshot self.now }
@@ -345,7 +357,7 @@ impl Snapshot {
 
     // The block at a place in leaf order, in whose leaf's cell its anchor is, by the places of the present objects.
     // Its place by object comes before it.
-    pub(crate) fn block_among<L: Ledger>(
+    pub(crate) fn block_among<L: Reads>(
         &self,
         present: &[u32],
         place: u32,
@@ -355,6 +367,7 @@ impl Snapshot {
         requires within { place < length self.now.parts.perm }
         requires cell { slice_get (tree_in self.now).cells (leaf_at self.now place) ≡ Some cell }
         requires present { present.now ≡ first_ones self.now.parts.present (length self.now.parts.perm) }
+        requires may { IsTrue (L.may (ofPeriod self.now.number)) }
         ensures rank { result.0 ≡ slice_index self.now.parts.perm place }
         ensures value { result.1 ≡ block_at self.now place }
         ensures cost { steps.new ≤ steps.old + at_reads }
@@ -363,9 +376,31 @@ impl Snapshot {
         (rank, self.block(present[rank as usize], rank, cell))
     }
 
+    // The same by bounds that begin at the anchors of all blocks, by object, counted from the base of the grid.
+    pub(crate) fn block_bounded<L: Reads>(
+        &self,
+        present: &[u32],
+        bounds: &[PackedBounds],
+        place: u32,
+        steps: &mut Steps<L>,
+    ) -> (u32, Anchored)
+        requires within { place < length self.now.parts.perm }
+        requires present { present.now ≡ first_ones self.now.parts.present (length self.now.parts.perm) }
+        requires bounds { AreFromAnchors self.now bounds.now }
+        requires may { IsTrue (L.may (ofPeriod self.now.number)) }
+        ensures rank { result.0 ≡ slice_index self.now.parts.perm place }
+        ensures value { result.1 ≡ block_at self.now place }
+        ensures cost { steps.new ≤ steps.old + at_reads }
+    {
+        let rank = self.blocks().perm.at(place, steps);
+        let cell = anchor_of(bounds[rank as usize], self.frame().base);
+        (rank, self.block(present[rank as usize], rank, cell))
+    }
+
     // Whether the object at a place in leaf order is the last of its cell.
-    pub(crate) fn is_last<L: Ledger>(&self, place: u32, steps: &mut Steps<L>) -> bool
-        requires { place < length self.now.parts.perm }
+    pub(crate) fn is_last<L: Reads>(&self, place: u32, steps: &mut Steps<L>) -> bool
+        requires within { place < length self.now.parts.perm }
+        requires may { IsTrue (L.may (ofPeriod self.now.number)) }
         ensures room { place + 1 < 2 ^ 32 }
         ensures next { leaf_at self.now (place + 1) ≡ leaf_at self.now place + (if result then 1 else 0) }
         ensures more { result ≡ false → IsAt self.now (leaf_at self.now place) (Place (place + 1)) }
@@ -398,8 +433,9 @@ impl Snapshot {
     }
 
     // Whether an object has a block.
-    fn is_present<L: Ledger>(&self, index: u32, steps: &mut Steps<L>) -> bool
-        requires { index < self.now.objects }
+    fn is_present<L: Reads>(&self, index: u32, steps: &mut Steps<L>) -> bool
+        requires within { index < self.now.objects }
+        requires may { IsTrue (L.may (ofPeriod self.now.number)) }
         ensures value { slice_get self.now.parts.present index ≡ Some result }
         ensures snapshot { IsSnapshot self.now }
         ensures cost { steps.new ≤ steps.old + get_reads }
@@ -420,6 +456,19 @@ impl Snapshot {
             PeriodStore::Empty { .. } => unreachable!(),
             PeriodStore::Filled { blocks, .. } => blocks,
         }
+    }
+}
+
+// The cell from which a log begins, whose bounds are counted from the base of the grid.
+fn anchor_of(bounds: PackedBounds, base: Cell) -> Cell
+    requires column { IsNear base.x }
+    requires line { IsNear base.y }
+    ensures { result ≡ cell_with (bounds.from.x +ℤ base.x) (bounds.from.y +ℤ base.y) }
+{
+    let from = bounds.unpack().from;
+    Cell {
+        x: from.x + base.x,
+        y: from.y + base.y,
     }
 }
 

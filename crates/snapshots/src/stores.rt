@@ -1,4 +1,5 @@
 ghost use Rattle.std.specs.Prelude.{◌≡◌, ℕ, ◌+◌, ◌<◌, ◌≤◌, [], None, length, slice_get, IfErr, IfNone, IfOk, IfSome, OnOk, Some};
+ghost use Rattle.step_count.specs.Reads.{is_of_period, ofPeriod, AllMay, ReadsWithin};
 ghost use Rattle.track_types.specs.Frame.{periods_of};
 ghost use Rattle.track_types.specs.Shape.{IsShaped};
 ghost use Rattle.snapshots.specs.Bounded.{AreBounds};
@@ -9,7 +10,7 @@ ghost use Rattle.snapshots.specs.Parts.{chart_in, index_in, period_in, rules_in,
 ghost use Rattle.snapshots.specs.SoundParts.{IsSound, IsValid};
 ghost use Rattle.snapshots.specs.Speed.{speed_of, IsWithinReach};
 ghost use Rattle.snapshots.specs.Stores.{join_of, AreOf};
-ghost use Rattle.std.specs.Prelude.{◌*◌, filter, map, All};
+ghost use Rattle.std.specs.Prelude.{◌*◌, filter, map, All, IsTrue};
 ghost use Rattle.std.specs.List.{sum_by};
 ghost use Rattle.snapshots.specs.Upgrade.{tree_reads, upgrade_of, upgraded_parts};
 ghost use Rattle.k2_tree.specs.Pruning.{square_count};
@@ -17,7 +18,7 @@ ghost use Rattle.snapshots.specs.Cost.{block_reads, lookup_reads, square_reads};
 ghost use Rattle.snapshots.specs.Objects.{WeighSame};
 ghost use Rattle.snapshots.specs.Sound.{IsBlock};
 ghost use Rattle.snapshots.specs.TrackTree.{AreKept};
-ghost use Rattle.snapshots.specs.TrackWalk.{tracks_budget, tracks_left};
+ghost use Rattle.snapshots.specs.TrackWalk.{tracks_budget, tracks_left, tracks_needs};
 ghost use Rattle.snapshots.specs.Tracks.{blocks_by_leaf, cell_box, may_hold, AreOnTracks};
 ghost use Rattle.snapshots.specs.View.{all_blocks, block_of, tree_in};
 
@@ -35,8 +36,7 @@ use log_bounds::PackedBounds;
 use rule_store::RuleStore;
 use std::alloc::Global;
 use std::marker::Model;
-use std::sync::ledger::Ledger;
-use step_count::Steps;
+use step_count::{Reads, Steps};
 use track_types::{Frame, List32, Memory, Parts, PeriodList};
 
 /// All that an index keeps: its header, its objects, its rules with the symbols of all logs, and a
@@ -81,7 +81,7 @@ impl Stores {
     /// symbol once, and what leads to the blocks of each snapshot. In the same pass it finds the speed of each period,
     /// and the box of each block's track, which `tracks` goes through. Memory is taken for these, and for the blocks of
     /// a period while the call runs.
-    pub fn join<L: Ledger>(
+    pub fn join<L: Reads>(
         alloc: Global,
         frame: Frame,
         objects: List32,
@@ -89,7 +89,8 @@ impl Stores {
         snaps: Vec<Snapshot>,
         steps: &mut Steps<L>,
     ) -> Result<Stores, SnapFault>
-        requires { AreOf (join_of frame objects rules snaps.items) rules snaps.items }
+        requires of { AreOf (join_of frame objects rules snaps.items) rules snaps.items }
+        requires may { AllMay L.may }
         ensures ok { IfOk result (λ stores. stores ≡ join_of frame objects rules snaps.items) }
         ensures exact { OnOk result (logs_flaw (join_of frame objects rules snaps.items) ≡ None) }
         ensures sound { OnOk result (IsSound (join_of frame objects rules snaps.items)) }
@@ -125,7 +126,7 @@ impl Stores {
     /// The parts are those that `join` takes, and the same stores come of them. It reads no symbol, but what leads to the
     /// blocks of each snapshot. The bounds of a period are let go when it is done. Memory is taken for what `join` keeps,
     /// and for the blocks of a period and their boxes while the call runs.
-    pub fn join_bounded<L: Ledger>(
+    pub fn join_bounded<L: Reads>(
         alloc: Global,
         frame: Frame,
         objects: List32,
@@ -137,6 +138,7 @@ impl Stores {
         requires of { AreOf (join_of frame objects rules snaps.items) rules snaps.items }
         requires flawless { logs_flaw (join_of frame objects rules snaps.items) ≡ None }
         requires bounds { AreBounds (join_of frame objects rules snaps.items) bounds.items }
+        requires may { AllMay L.may }
         ensures ok { IfOk result (λ stores. stores ≡ join_of frame objects rules snaps.items) }
         ensures cost { steps.new ≤ steps.old + open_cost (join_of frame objects rules snaps.items) }
     {
@@ -145,7 +147,7 @@ impl Stores {
         for of_period in bounds {
             let number = speeds.len();
             let snapshot = &snaps[number];
-            let kept = keep_bounded(alloc, snapshot, &of_period, steps)?;
+            let kept = keep_bounded(alloc, snapshot, number as u32, &of_period, steps)?;
             speeds.push_reserved(kept.speed);
             tracks.push_reserved(kept.tracks);
         }
@@ -221,9 +223,10 @@ impl Stores {
     ///
     /// It goes from the object to its place among the present ones, by the inverse permutation to its place in leaf
     /// order, and takes what is kept there for searches: at most `lookup_reads`. It takes no memory.
-    pub fn find<L: Ledger>(&self, period: u32, index: u32, steps: &mut Steps<L>) -> Option<Anchored>
+    pub fn find<L: Reads>(&self, period: u32, index: u32, steps: &mut Steps<L>) -> Option<Anchored>
         requires period { period < periods_of self.now.frame }
         requires index { index < length self.now.objects }
+        requires may { IsTrue (L.may (ofPeriod period)) }
         ensures value { result ≡ block_of (snapshot_in self.now period) index }
         ensures block { IfSome result (IsBlock (snapshot_in self.now period)) }
         ensures cost { steps.new ≤ steps.old + lookup_reads }
@@ -252,6 +255,7 @@ impl Stores {
             + block_reads * length (filter (λ block. S.squares search (cell_box block.cell))
             (all_blocks (snapshot_in self.now period))) }
         ensures on_tracks { AreOnTracks self.now period }
+        ensures needs { ReadsWithin (tracks_needs result) (is_of_period period) }
     {
         match &self.tracks[period as usize] {
             Some(kept) => Tracks::new(Some(KeptWalk::new(kept, search))),
@@ -266,6 +270,7 @@ impl Stores {
         ensures none { IfNone result (blocks_by_leaf (snapshot_in self.now period) ≡ []) }
         ensures kept { IfSome result (λ kept. AreKept self.now.frame (rules_in self.now)
             (blocks_by_leaf (snapshot_in self.now period)) kept.now) }
+        ensures period { IfSome result (λ kept. kept.now.number.value ≡ period) }
     {
         match &self.tracks[period as usize] {
             Some(kept) => Some(kept),
@@ -293,11 +298,12 @@ impl Stores {
     ///
     /// It makes no more reads than opening. Memory is taken for the list of periods, for the trees
     /// and their cells, and for the presence bits of periods without a block.
-    pub fn into_upgraded<L: Ledger>(
+    pub fn into_upgraded<L: Reads>(
         self,
         alloc: Global,
         steps: &mut Steps<L>,
     ) -> Result<Parts, Memory>
+        requires may { AllMay L.may }
         ensures ok { IfOk result (λ parts. parts ≡ upgrade_of self) }
         ensures valid { IfOk result IsValid }
         ensures chart { IfOk result (λ parts. chart_in parts ≡ chart_in self) }
@@ -324,7 +330,7 @@ impl Stores {
 }
 
 // The parts of all periods, whose snapshots are given up, in the newest version.
-fn upgraded_periods<L: Ledger>(
+fn upgraded_periods<L: Reads>(
     alloc: Global,
     snaps: Vec<Snapshot>,
     steps: &mut Steps<L>,

@@ -7,6 +7,8 @@ use step_count::CountedList;
 /// What is kept of the blocks of a period for searches, in leaf order.
 #[derive(Drop)]
 pub struct TrackTree {
+    /// The number of the period, for contracts alone: it takes no bytes.
+    pub number: std::snapshot::Snapshot<u32>,
     /// Their cells and the boxes of their tracks.
     pub tree: BoxTree,
     /// How many instants after the period's first each begins, and where its log does.

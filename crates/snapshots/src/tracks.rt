@@ -7,8 +7,7 @@ use crate::anchored::Anchored;
 use crate::kept_walk::KeptWalk;
 use crate::track_tree::TrackTree;
 use box_tree::{BoxWalk, Search};
-use std::sync::ledger::Ledger;
-use step_count::Steps;
+use step_count::{Reads, Steps};
 use track_types::Lazy;
 
 /// The blocks of a period that may hold what is sought, in leaf order.
@@ -42,7 +41,7 @@ impl<'a, S: Search> KeptWalk<'a, S> {
 }
 
 impl<'a, S: Search> Lazy for Tracks<'a, S> {
-    ghost use Rattle.snapshots.specs.TrackWalk.{tracks_budget, tracks_left};
+    ghost use Rattle.snapshots.specs.TrackWalk.{tracks_budget, tracks_left, tracks_needs};
 
     type Item = Anchored;
 
@@ -50,7 +49,9 @@ impl<'a, S: Search> Lazy for Tracks<'a, S> {
 
     ghost budget = { tracks_budget S.squares S.boxes };
 
-    fn draw<L: Ledger>(&mut self, steps: &mut Steps<L>) -> Option<Anchored> {
+    ghost needs = { tracks_needs };
+
+    fn draw<L: Reads>(&mut self, steps: &mut Steps<L>) -> Option<Anchored> {
         match &mut self.walk {
             Some(walk) => walk.draw(steps),
             None => None,

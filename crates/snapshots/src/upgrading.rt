@@ -7,8 +7,7 @@ use crate::everywhere::Everywhere;
 use crate::snapshot::Snapshot;
 use k2_tree::K2Tree;
 use std::alloc::Global;
-use std::sync::ledger::Ledger;
-use step_count::Steps;
+use step_count::{Reads, Steps};
 use track_types::{BitList, Cell, Frame, Lazy, MAX_VERSION, Memory, PeriodParts};
 
 /// The header in the newest version of the format.
@@ -24,7 +23,7 @@ pub fn newest(frame: &Frame) -> Frame
 /// The parts of a period, which is given up, in the newest version of the format: its tree is made
 /// anew from its cells. Memory is taken for these, for the tree, and for the presence bits of a
 /// period without a block.
-pub fn upgraded<L: Ledger>(
+pub fn upgraded<L: Reads>(
     alloc: Global,
     snapshot: Snapshot,
     steps: &mut Steps<L>,
@@ -52,7 +51,7 @@ pub fn upgraded<L: Ledger>(
 }
 
 // The bits of the tree of the same cells in the newest version.
-fn newest_tree<L: Ledger>(
+fn newest_tree<L: Reads>(
     alloc: Global,
     snapshot: &Snapshot,
     steps: &mut Steps<L>,
@@ -68,7 +67,7 @@ fn newest_tree<L: Ledger>(
 }
 
 // The cells of a snapshot's tree, in Morton order.
-fn cells_of<L: Ledger>(
+fn cells_of<L: Reads>(
     alloc: Global,
     snapshot: &Snapshot,
     steps: &mut Steps<L>,

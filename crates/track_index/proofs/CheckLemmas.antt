@@ -83,6 +83,15 @@ module _ (parts : Parts) (shaped : IsShaped parts) where
 pub check_flaw_valid : (parts : Parts) → IsValid parts → check_flaw parts ≡ None
 check_flaw_valid parts valid = check_flaw-sound parts valid.shaped valid.sound
 
+-- nor have their rules, their total and their snapshots
+pub unflawed-valid : (parts : Parts) → IsValid parts → (grammar_flaw (rules_in parts) ≡ None) × (total_flaw parts ≡ None)
+    × (snapshots_flaw (snapshots_in parts) ≡ None)
+unfolding check_flaw
+unflawed-valid parts valid =
+    let first = or-none (grammar_flaw (rules_in parts)) _ (check_flaw_valid parts valid) in
+    let second = or-none (total_flaw parts) _ first.1 in
+    (first.0, second.0, (or-none (snapshots_flaw (snapshots_in parts)) (logs_flaw parts) second.1).0)
+
 -- shaped parts have no flaw if and only if they are sound
 pub check_flaw-none : (parts : Parts) → IsShaped parts
     → (check_flaw parts ≡ None → IsSound parts) × (IsSound parts → check_flaw parts ≡ None)

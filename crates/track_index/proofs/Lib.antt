@@ -1,3 +1,4 @@
+pub mod NeedsLemmas
 pub mod ListedLemmas
 -- Laws for callers: sound parts have no flaw, the bytes of an index file have none, and what bytes have that were read.
 pub mod CheckLemmas

@@ -2,6 +2,7 @@
 pub mod Facts
 pub mod Listed
 pub mod Cost
+pub mod Needs
 pub mod CheckFlaws
 pub mod Judged
 pub mod Opening

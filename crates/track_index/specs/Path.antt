@@ -1,7 +1,8 @@
 -- What is left of the walk of a path: the walk over the block that was begun, and the periods after it.
-use Rattle.std.specs.Prelude.{◌≡◌, ℕ, ◌+◌, ◌-◌, ◌<◌, ◌≤◌, ℤ, ◌≤ℤ◌, Bool, ◌&&◌, if◌then◌else◌, List, ◌++◌, All, None, filter, length, min}
+use Rattle.std.specs.Prelude.{◌≡◌, ℕ, ◌+◌, ◌-◌, ◌<◌, ◌≤◌, ℤ, ◌≤ℤ◌, Bool, ◌&&◌, if◌then◌else◌, List, ◌++◌, All, None, filter, length, min, nat_le, nat_lt}
 use Rattle.std.specs.Int.Signed.{le_z}
 use Rattle.std.specs.List.{range_with_len, sum_by}
+use Rattle.step_count.specs.Reads.{Read, is_of_periods}
 use Rattle.track_types.specs.Frame.{periods_of}
 use Rattle.track_types.specs.StopWalk.{first_past, up_to}
 use Rattle.track_types.specs.declared.frame.Frame.{Frame}
@@ -49,6 +50,18 @@ path_walk_of parts index from to next behind block = record {
   next = next;
   behind = behind;
 }
+
+-- a period is one from one to before another
+abbrev pub is_left : ℕ → ℕ → ℕ → Bool
+is_left next behind period = nat_le next period && nat_lt period behind
+
+-- the reads of logs, and those of the periods from one to before another
+abbrev pub left_needs : ℕ → ℕ → Read → Bool
+left_needs next behind = is_of_periods (is_left next behind)
+
+-- the reads that are needed for the stops that are left of a walk
+abbrev pub path_needs : PathView → Read → Bool
+path_needs path = left_needs path.next path.behind
 
 -- the reads of the block that was begun up to an instant: all of them where the next period begins by then
 abbrev pub block_reads_to : Frame → ℕ → WalkView → ℤ → ℕ

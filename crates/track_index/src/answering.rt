@@ -1,4 +1,5 @@
 ghost use Rattle.std.specs.Prelude.{◌≡◌, ◌≤◌, ℤ, IfOk};
+ghost use Rattle.step_count.specs.Reads.{ReadsWithin};
 ghost use Rattle.track_types.specs.ByFilter.{path_of};
 ghost use Rattle.track_types.specs.declared.question.Question.TheVariants as asked;
 ghost use Rattle.snapshots.specs.IndexCost.{path_cost};
@@ -9,15 +10,15 @@ use crate::searching::{interval_of, slice_of};
 use nearest_search::nearest;
 use object_track::{Periods, cell_in, last_of};
 use std::alloc::Global;
-use std::sync::ledger::Ledger;
-use step_count::Steps;
+use step_count::{Reads, Steps};
 use track_types::{Answerer, Cell, Facts, Hit, Memory, Near, Region, Sighting, Stop};
 
 impl<'a> Answerer for IndexRef<'a> {
     ghost use Rattle.snapshots.specs.Parts.{chart_in};
     ghost use Rattle.track_index.specs.Cost.{cost_of, path_cost_until};
     ghost use Rattle.track_index.specs.Facts.{facts_of};
-    ghost use Rattle.track_index.specs.Path.{path_reads_past, path_reads_to};
+    ghost use Rattle.track_index.specs.Needs.{needs_of};
+    ghost use Rattle.track_index.specs.Path.{path_needs, path_reads_past, path_reads_to};
 
     type Walk = PathWalk<'a>;
 
@@ -26,6 +27,8 @@ impl<'a> Answerer for IndexRef<'a> {
     ghost facts = { λ a. facts_of a.index.now };
 
     ghost cost = { λ a. cost_of a.index.now };
+
+    ghost needs = { λ a. needs_of a.index.now };
 
     ghost path_cost_until = { λ a. path_cost_until a.index.now };
 
@@ -49,7 +52,7 @@ impl<'a> Answerer for IndexRef<'a> {
         }
     }
 
-    fn position<L: Ledger>(self, object: u32, instant: i64, steps: &mut Steps<L>) -> Option<Cell> {
+    fn position<L: Reads>(self, object: u32, instant: i64, steps: &mut Steps<L>) -> Option<Cell> {
         let stores = self.index.stores();
         let place = stores.index_of(object)?;
         let period = stores.period_of(instant)?;
@@ -61,6 +64,8 @@ impl<'a> Answerer for IndexRef<'a> {
             walk.stops ≡ path_of (chart_in self.entry.index.now).rows object from to) }
         ensures budget { IfOk result (λ walk.
             walk.reads ≤ cost_of self.entry.index.now (asked.Path object from to)) }
+        ensures needs { IfOk result (λ walk.
+            ReadsWithin (path_needs walk) (needs_of self.entry.index.now (asked.Path object from to))) }
         ensures budget_to { IfOk result (λ walk. (instant : ℤ) →
             path_reads_to walk instant ≤ path_cost self.entry.index.now object from instant) }
         ensures in_time { IfOk result (λ walk. (instant : ℤ) → path_reads_past walk instant
@@ -74,7 +79,7 @@ impl<'a> Answerer for IndexRef<'a> {
         PathWalk::new(alloc, self.index, place, periods, from, to)
     }
 
-    fn slice<L: Ledger>(
+    fn slice<L: Reads>(
         self,
         alloc: Global,
         instant: i64,
@@ -84,7 +89,7 @@ impl<'a> Answerer for IndexRef<'a> {
         slice_of(alloc, self.index.stores(), instant, region, steps)
     }
 
-    fn interval<L: Ledger>(
+    fn interval<L: Reads>(
         self,
         alloc: Global,
         from: i64,
@@ -95,7 +100,7 @@ impl<'a> Answerer for IndexRef<'a> {
         interval_of(alloc, self.index.stores(), (from, to), region, steps)
     }
 
-    fn nearest<L: Ledger>(
+    fn nearest<L: Reads>(
         self,
         alloc: Global,
         count: u32,

@@ -1,15 +1,17 @@
 ghost use Rattle.std.specs.Prelude.{◌≡◌, ◌+◌, ◌==◌, ◌<◌, ◌≤◌, length, None, Ok, Option, sum, IfErr, IfOk, IfSome, OnOk};
+ghost use Rattle.step_count.specs.Reads.{AllMay};
 ghost use Rattle.std.specs.Prelude.{MatchOption};
 ghost use Rattle.std.specs.List.{sum_by};
 ghost use Rattle.track_types.specs.Flaws.{IsFormatFaultFor};
 ghost use Rattle.track_types.specs.Frame.{IsFrame};
 ghost use Rattle.track_types.specs.Shape.{IsShaped};
 ghost use Rattle.snapshots.specs.IndexCost.{open_cost};
-ghost use Rattle.snapshots.specs.Parts.{chart_in, symbols_of};
+ghost use Rattle.snapshots.specs.Parts.{chart_in, rules_in, symbols_of};
 ghost use Rattle.snapshots.specs.SoundParts.{IsValid};
 ghost use Rattle.chart_parts.specs.PartsOf.{parts_of};
 ghost use Rattle.index_format.specs.Answers.{Gives};
-ghost use Rattle.index_file.specs.File.{AreBounded};
+ghost use Rattle.rule_store.specs.Table.{IsWholeTable};
+ghost use Rattle.index_file.specs.File.{IsFoundOf};
 ghost use Rattle.track_types.specs.declared.limit.TheConstants.{MAX_INDEX, MAX_SYMBOLS};
 ghost use Rattle.track_types.specs.declared.parts.Parts.{Parts as WholeParts};
 ghost use Rattle.track_index.specs.Opening.{bytes_cost, first_flaw, IsFile};
@@ -18,14 +20,12 @@ ghost use Rattle.track_index.specs.Judged.{AreJudged};
 
 use crate::index::Index;
 use chart_parts::parts_of;
-use index_file::{FileParts, decode_bounded};
-use log_bounds::PackedBounds;
-use rule_store::RuleStore;
+use index_file::{FileParts, Found, decode_found};
+use rule_store::{EntryTable, RuleStore};
 use snapshots::{Header, Snapshot, Stores};
 use std::alloc::Global;
 use std::rc::Rc;
-use std::sync::ledger::Ledger;
-use step_count::Steps;
+use step_count::{Reads, Steps};
 use track_types::{
     Chart, Flaw, FormatFault, Frame, Kind, List32, Memory, Parts, PeriodList, PeriodParts, Section,
 };
@@ -46,12 +46,13 @@ impl Index {
     /// The lists of the parts become those of the index. It takes time linear in their lengths, and
     /// at most `open_cost` reads.
     #[tactic(auto, using(crate::proofs::CheckLemmas::check_flaw_valid))]
-    pub fn check<L: Ledger>(
+    pub fn check<L: Reads>(
         alloc: Global,
         parts: Parts,
         steps: &mut Steps<L>,
     ) -> Result<Index, FormatFault>
-        requires { IsShaped parts }
+        requires shaped { IsShaped parts }
+        requires may { AllMay L.may }
         ensures ok { IfOk result (λ index. index ≡ parts) }
         ensures exact { OnOk result (check_flaw parts ≡ None) }
         ensures valid { OnOk result (IsValid parts) }
@@ -69,55 +70,60 @@ impl Index {
         Ok(Index { stores })
     }
 
-    // The index of what a file holds. Parts whose bounds are known are those of an index, and their logs are not read again.
-    fn of_file<L: Ledger>(
+    // The index of what a file holds. Parts of which anything was found are those of an index, and their rules and logs are not
+    // judged again.
+    fn of_file<L: Reads>(
         alloc: Global,
         read: FileParts,
         steps: &mut Steps<L>,
     ) -> Result<Index, FormatFault>
         requires shaped { IsShaped read.parts }
-        requires bounds { IfSome read.bounds (λ bounds. AreBounded read.parts bounds.items) }
+        requires found { IfSome read.found (IsFoundOf read.parts) }
+        requires may { AllMay L.may }
         ensures ok { IfOk result (λ index. index ≡ read.parts) }
         ensures exact { OnOk result (check_flaw read.parts ≡ None) }
         ensures valid { OnOk result (IsValid read.parts) }
         ensures flaw { IfErr result (λ fault. IsFormatFaultFor (check_flaw read.parts) fault) }
         ensures cost { steps.new ≤ steps.old + open_cost read.parts }
     {
-        let FileParts { parts, bounds } = read;
-        match bounds {
-            Some(bounds) => Ok(Index::of_bounded(alloc, parts, bounds, steps)?),
+        let FileParts { parts, found } = read;
+        match found {
+            Some(found) => Ok(Index::of_found(alloc, parts, found, steps)?),
             None => Index::check(alloc, parts, steps),
         }
     }
 
-    // The index of these parts, which are those of an index, by the bounds of their logs. `Memory` is its only refusal.
-    fn of_bounded<L: Ledger>(
+    // The index of these parts, which are those of an index, by what was found of them. `Memory` is its only refusal.
+    fn of_found<L: Reads>(
         alloc: Global,
         parts: Parts,
-        bounds: Vec<Vec<PackedBounds>>,
+        found: Found,
         steps: &mut Steps<L>,
     ) -> Result<Index, Memory>
-        requires { AreBounded parts bounds.items }
+        requires found { IsFoundOf parts found }
+        requires may { AllMay L.may }
         ensures ok { IfOk result (λ index. index ≡ parts) }
         ensures cost { steps.new ≤ steps.old + open_cost parts }
     {
+        let Found { bounds, table } = found;
         let JudgedParts {
             frame,
             objects,
             rules,
             snaps,
-        } = judged_valid(alloc, parts)?;
+        } = judged_valid(alloc, parts, table)?;
         let stores = Stores::join_bounded(alloc, frame, objects, rules, snaps, bounds, steps)?;
         Ok(Index { stores })
     }
 
     /// The index of a chart, made from the parts that the chart is written as. These hold the same
     /// chart. It makes at most `open_cost` of these parts in reads, and `Memory` is its only refusal.
-    pub fn build<L: Ledger>(
+    pub fn build<L: Reads>(
         alloc: Global,
         chart: &Chart,
         steps: &mut Steps<L>,
     ) -> Result<Index, Memory>
+        requires may { AllMay L.may }
         ensures ok { IfOk result (λ index. index ≡ parts_of chart.now) }
         ensures valid { IfOk result (λ index. IsValid index) }
         ensures reads_back { IfOk result (λ index. chart_in index ≡ chart.now) }
@@ -138,12 +144,13 @@ impl Index {
 /// parts that they hold, in the order of `Index::check`. So an index is opened only from the bytes of
 /// an index file, and these are refused only for `Memory`. If the bytes hold no parts, it makes no
 /// read.
-pub fn open<L: Ledger>(
+pub fn open<L: Reads>(
     alloc: Global,
     bytes: &[u8],
     steps: &mut Steps<L>,
 ) -> Result<Index, FormatFault>
-    requires { length bytes.now ≤ MAX_INDEX }
+    requires few { length bytes.now ≤ MAX_INDEX }
+    requires may { AllMay L.may }
     ensures ok { IfOk result (λ index. IsFile bytes.now index) }
     ensures exact { OnOk result (first_flaw bytes.now ≡ None) }
     ensures decides { (parts : WholeParts) → IsFile bytes.now parts
@@ -154,18 +161,19 @@ pub fn open<L: Ledger>(
     ensures cost { steps.new ≤ steps.old + bytes_cost bytes.now }
     ensures cost_opened { IfOk result (λ index. bytes_cost bytes.now ≡ open_cost index) }
 {
-    let read = decode_bounded(alloc, bytes)?;
+    let read = decode_found(alloc, bytes)?;
     Index::of_file(alloc, read, steps)
 }
 
 /// Opens the bytes of an index file as `open` does. The bytes are dropped after they are decoded, before
 /// it takes memory for the tables that searches use.
-pub fn open_bytes<L: Ledger>(
+pub fn open_bytes<L: Reads>(
     alloc: Global,
     bytes: Vec<u8>,
     steps: &mut Steps<L>,
 ) -> Result<Index, FormatFault>
-    requires { length bytes.items ≤ MAX_INDEX }
+    requires few { length bytes.items ≤ MAX_INDEX }
+    requires may { AllMay L.may }
     ensures ok { IfOk result (λ index. IsFile bytes.items index) }
     ensures exact { OnOk result (first_flaw bytes.items ≡ None) }
     ensures decides { (parts : WholeParts) → IsFile bytes.items parts
@@ -176,7 +184,7 @@ pub fn open_bytes<L: Ledger>(
     ensures cost { steps.new ≤ steps.old + bytes_cost bytes.items }
     ensures cost_opened { IfOk result (λ index. bytes_cost bytes.items ≡ open_cost index) }
 {
-    let read = decode_bounded(alloc, bytes.as_slice())?;
+    let read = decode_found(alloc, bytes.as_slice())?;
     drop(bytes);
     Index::of_file(alloc, read, steps)
 }
@@ -220,16 +228,32 @@ fn judged(alloc: Global, parts: Parts) -> Result<JudgedParts, FormatFault>
     })
 }
 
-// Judges the parts of an index, which have no flaw, so that `Memory` is the only refusal.
-fn judged_valid(alloc: Global, parts: Parts) -> Result<JudgedParts, Memory>
-    requires { IsValid parts }
+// The same of the parts of an index, which have no flaw, by a table of the entries of its symbols. `Memory` is its only refusal.
+fn judged_valid(alloc: Global, parts: Parts, table: EntryTable) -> Result<JudgedParts, Memory>
+    requires valid { IsValid parts }
+    requires table { IsWholeTable (rules_in parts) table }
     ensures { IfOk result (AreJudged parts) }
 {
-    match judged(alloc, parts) {
-        Ok(judged) => Ok(judged),
-        Err(FormatFault::Memory) => Err(Memory),
-        Err(FormatFault::Flaw(_)) => unreachable!(), // the parts of an index have no flaw
-    }
+    let Parts {
+        frame,
+        objects,
+        alphabet,
+        rules,
+        periods,
+        symbols,
+    } = parts;
+    let count = objects.as_slice().len() as u32;
+    let snaps = match check_periods(alloc, &frame, count, periods) {
+        Ok(snaps) => snaps,
+        Err(FormatFault::Memory) => return Err(Memory),
+        Err(FormatFault::Flaw(_)) => unreachable!(), // the periods of an index have no flaw
+    };
+    Ok(JudgedParts {
+        frame,
+        objects,
+        rules: RuleStore::of_table(alphabet, rules, symbols, table),
+        snaps,
+    })
 }
 
 // Whether the lengths of all logs add up to the number of symbols.

@@ -1,10 +1,11 @@
 ghost use Rattle.std.specs.Prelude.{◌≡◌, ◌++◌, ◌+◌, ◌≤◌, ◌<◌, ℤ};
+ghost use Rattle.step_count.specs.Reads.{ReadsWithin};
 ghost use Rattle.std.specs.Prelude.{[], length, IfNone, IfOk, IfSome, option_to_list};
 ghost use Rattle.track_types.specs.Frame.{periods_of};
 ghost use Rattle.log_cursor.specs.Touching.{IsDrawnIn};
 ghost use Rattle.log_cursor.specs.Walk.{IsDrawnInTime};
 ghost use Rattle.object_track.specs.Between.{cost_between, stops_between};
-ghost use Rattle.track_index.specs.Path.{cost_until, path_reads_to};
+ghost use Rattle.track_index.specs.Path.{cost_until, left_needs, path_needs, path_reads_to};
 
 use crate::index::Index;
 use log_cursor::BlockWalk;
@@ -12,8 +13,7 @@ use object_track::{Periods, Placed};
 use region_test::RegionTest;
 use std::alloc::Global;
 use std::marker::Model;
-use std::sync::ledger::Ledger;
-use step_count::Steps;
+use step_count::{Reads, Steps};
 use track_types::{Lazy, Memory, Stop, StopWalk};
 
 /// A walk over the stops of an object in a window, period by period.
@@ -62,6 +62,8 @@ impl<'a> PathWalk<'a> {
             ≡ stops_between index.now object from to periods.next periods.end) }
         ensures budget { IfOk result (λ walk. walk.reads
             ≡ cost_between index.now object from to periods.next periods.end) }
+        ensures needs { IfOk result (λ walk.
+            ReadsWithin (path_needs walk) (left_needs periods.next periods.end)) }
         ensures budget_to { IfOk result (λ walk. (instant : ℤ) → path_reads_to walk instant
             ≡ cost_until index.now object from instant periods.next periods.end) }
     {
@@ -82,9 +84,11 @@ impl<'a> PathWalk<'a> {
     /// It passes over what has no cell of the region. Of a block of which it has opened many rules, it
     /// passes over a rule that it meets again at the cell where it was opened, as long as it remembers
     /// that. It takes no memory.
-    pub fn draw_in<L: Ledger>(&mut self, test: &RegionTest, steps: &mut Steps<L>) -> Option<Stop>
+    pub fn draw_in<L: Reads>(&mut self, test: &RegionTest, steps: &mut Steps<L>) -> Option<Stop>
+        requires may { ReadsWithin (path_needs self.old) L.may }
         ensures drawn { IsDrawnIn test.now.region self.old.stops self.new.stops result }
         ensures cost { steps.new + self.new.reads ≤ steps.old + self.old.reads }
+        ensures needs { ReadsWithin (path_needs self.new) (path_needs self.old) }
     {
         let index = self.index;
         let stores = index.stores();
@@ -107,18 +111,24 @@ impl<'a> PathWalk<'a> {
 }
 
 impl<'a> Lazy for PathWalk<'a> {
+    ghost use Rattle.track_index.specs.Path.{path_needs};
+
     type Item = Stop;
 
     ghost left = { λ w. w.stops };
 
     ghost budget = { λ w. w.reads };
 
-    fn draw<L: Ledger>(&mut self, steps: &mut Steps<L>) -> Option<Stop>
+    ghost needs = { path_needs };
+
+    fn draw<L: Reads>(&mut self, steps: &mut Steps<L>) -> Option<Stop>
+        requires may { ReadsWithin (path_needs self.old) L.may }
         ensures found { self.old.stops ≡ option_to_list result ++ self.new.stops }
         ensures none { IfNone result (self.old.stops ≡ []) }
         ensures cost { steps.new + self.new.reads ≤ steps.old + self.old.reads }
         ensures in_time { IfSome result
             (IsDrawnInTime (path_reads_to self.old) (path_reads_to self.new) steps.old steps.new) }
+        ensures needs { ReadsWithin (path_needs self.new) (path_needs self.old) }
     {
         let index = self.index;
         let stores = index.stores();
@@ -145,7 +155,7 @@ impl<'a> StopWalk for PathWalk<'a> {
 
     ghost reads_past = { λ w. path_reads_past w };
 
-    fn next<L: Ledger>(&mut self, steps: &mut Steps<L>) -> Option<Stop> {
+    fn next<L: Reads>(&mut self, steps: &mut Steps<L>) -> Option<Stop> {
         self.draw(steps)
     }
 }

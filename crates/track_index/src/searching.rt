@@ -1,8 +1,10 @@
 ghost use Rattle.std.specs.Prelude.{◌≡◌, ◌+◌, ◌≤◌, IfOk};
+ghost use Rattle.step_count.specs.Reads.{ReadsWithin};
 ghost use Rattle.track_types.specs.ByFilter.{hits_of, sightings_of};
 ghost use Rattle.track_types.specs.Near.{IsAsked, IsBoxWithin, IsCellWithin};
 ghost use Rattle.track_types.specs.Region.{in_region, intersects_region};
 ghost use Rattle.track_types.specs.Region.{IsRegionAsked, IsRegionWithin};
+ghost use Rattle.snapshots.specs.Needs.{needs_at, needs_between};
 ghost use Rattle.snapshots.specs.Parts.{chart_in};
 ghost use Rattle.interval_search.specs.Cost.{interval_cost};
 ghost use Rattle.slice_search.specs.Cost.{slice_cost};
@@ -12,15 +14,14 @@ use region_test::RegionTest;
 use slice_search::slice;
 use snapshots::Stores;
 use std::alloc::Global;
-use std::sync::ledger::Ledger;
-use step_count::Steps;
+use step_count::{Reads, Steps};
 use track_types::{Cell, CellBox, Hit, Memory, Region, Sighting};
 
 // Both searches of a region make the closures that answer it themselves: a function that makes them
 // can hand neither them nor a `RegionTest` on to its caller.
 
 // The slice of an instant in a region.
-pub(crate) fn slice_of<L: Ledger>(
+pub(crate) fn slice_of<L: Reads>(
     alloc: Global,
     stores: &Stores,
     instant: i64,
@@ -29,6 +30,7 @@ pub(crate) fn slice_of<L: Ledger>(
 ) -> Result<Vec<Sighting>, Memory>
     requires instant { IsAsked instant }
     requires region { IsRegionAsked region.now }
+    requires may { ReadsWithin (needs_at stores.now.frame instant) L.may }
     ensures ok { IfOk result (λ found.
         found.items ≡ sightings_of (chart_in stores.now).rows instant region.now) }
     ensures cost { steps.new ≤ steps.old + slice_cost stores.now instant region.now }
@@ -57,7 +59,7 @@ pub(crate) fn slice_of<L: Ledger>(
 }
 
 // The interval of a window in a region.
-pub(crate) fn interval_of<L: Ledger>(
+pub(crate) fn interval_of<L: Reads>(
     alloc: Global,
     stores: &Stores,
     window: (i64, i64),
@@ -67,6 +69,7 @@ pub(crate) fn interval_of<L: Ledger>(
     requires from { IsAsked window.0 }
     requires to { IsAsked window.1 }
     requires region { IsRegionAsked region.now }
+    requires may { ReadsWithin (needs_between stores.now.frame window.0 window.1) L.may }
     ensures ok { IfOk result (λ found.
         found.items ≡ hits_of (chart_in stores.now).rows window.0 window.1 region.now) }
     ensures cost { steps.new

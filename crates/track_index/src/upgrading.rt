@@ -1,4 +1,5 @@
 ghost use Rattle.std.specs.Prelude.{◌≡◌, ◌+◌, ◌*◌, ◌≤◌, None, IfErr, IfOk, OnOk};
+ghost use Rattle.step_count.specs.Reads.{AllMay};
 ghost use Rattle.track_types.specs.Flaws.{IsFormatFaultFor};
 ghost use Rattle.track_types.specs.Shape.{IsShaped};
 ghost use Rattle.snapshots.specs.IndexCost.{open_cost};
@@ -11,8 +12,7 @@ ghost use Rattle.track_index.specs.Facts.{facts_of};
 use crate::index::Index;
 use parts_order::settled;
 use std::alloc::Global;
-use std::sync::ledger::Ledger;
-use step_count::Steps;
+use step_count::{Reads, Steps};
 use track_types::{FormatFault, Parts};
 
 /// The same index in the newest version of the format, from parts which have the form of an index.
@@ -27,12 +27,13 @@ use track_types::{FormatFault, Parts};
 ///
 /// The lists of the parts become those of the answer. It takes time linear in their lengths, and at
 /// most twice the reads of opening.
-pub fn upgraded<L: Ledger>(
+pub fn upgraded<L: Reads>(
     alloc: Global,
     parts: Parts,
     steps: &mut Steps<L>,
 ) -> Result<Parts, FormatFault>
-    requires { IsShaped parts }
+    requires shaped { IsShaped parts }
+    requires may { AllMay L.may }
     ensures ok { IfOk result (λ newest. newest ≡ newest_of parts) }
     ensures exact { OnOk result (check_flaw parts ≡ None) }
     ensures newest { IfOk result IsNewest }

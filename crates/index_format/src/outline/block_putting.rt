@@ -5,7 +5,8 @@ ghost use Rattle.spiral_code.specs.Spiral.{code_of};
 ghost use Rattle.rule_store.specs.View.{RulesView};
 ghost use Rattle.track_types.specs.declared.limit.TheConstants.{MAX_HEIGHT, MAX_PERIOD, MAX_SPAN};
 ghost use Rattle.index_format.specs.OutlineBlocks.{anchor_bits, anchor_instant, blocks_bits, cell_after, end_bits, entry_width, is_in_grid, object_bits, period_end, when_bits};
-ghost use Rattle.index_format.specs.BlockSteps.{IsKept, IsLogFrom, IsPlaced, IsWholeTable, block_bits, no_block};
+ghost use Rattle.rule_store.specs.Table.{IsWholeTable};
+ghost use Rattle.index_format.specs.BlockSteps.{IsKept, IsLogFrom, IsPlaced, block_bits, no_block};
 ghost use Rattle.index_format.specs.IsOutline.{all_follow, blocks_with_logs, comes_after};
 ghost use Rattle.rule_store.specs.Table.{symbols_of};
 

@@ -8,14 +8,14 @@ use crate::outline::grid::cell_past;
 use log_bounds::LogBounds;
 use rule_store::Entry;
 
-/// A log as far as it was read: where it begins and has come to, and the bounds of its symbols so far.
+/// A log as far as it was read: how many instants it stands for, where it has come to, and the bounds of its symbols so far.
 #[derive(Clone, Copy)]
 pub struct BoundedLog {
-    pub start: LogRest,
+    pub whole: u32,
     pub at: LogRest,
     pub bounds: LogBounds,
-    ghost begins: { is_in_grid MAX_HEIGHT start.cell ≡ true },
-    ghost passed: { at.rest ≤ start.rest },
+    ghost begins: { is_in_grid MAX_HEIGHT bounds.from ≡ true },
+    ghost passed: { at.rest ≤ whole },
     ghost small: { IsPackable bounds },
 }
 
@@ -35,7 +35,7 @@ impl BoundedLog {
         ensures read { (view : RulesView) (before : List ℕ) → IsReadBehind view start before before result }
     {
         BoundedLog {
-            start,
+            whole: start.rest,
             at: start,
             bounds: LogBounds::of(start.cell),
         }
@@ -53,16 +53,14 @@ impl BoundedLog {
             → entry.now ≡ entry_of view symbol → IsReadBehind view start before symbols self
             → IsReadBehind view start before (symbols ++ symbol ∷ []) result }
     {
-        let passed = u64::from(self.start.rest - self.at.rest);
+        let passed = u64::from(self.whole - self.at.rest);
         BoundedLog {
-            start: self.start,
+            whole: self.whole,
             at: LogRest {
                 rest: self.at.rest - entry.duration,
                 cell: cell_past(height, self.at.cell, entry),
             },
-            bounds: self
-                .bounds
-                .with(self.start.cell, self.at.cell, passed, &entry.hull),
+            bounds: self.bounds.with(self.at.cell, passed, &entry.hull),
         }
     }
 }

@@ -2,7 +2,8 @@ ghost use Rattle.std.specs.Prelude.{◌≡◌, ℕ, ◌+◌, ◌≤◌, true, Li
 ghost use Rattle.rule_store.specs.View.{RulesView};
 ghost use Rattle.index_format.specs.Answers.{GivesElement};
 ghost use Rattle.index_format.specs.OutlineBlocks.{entry_in, log_in, is_in_grid};
-ghost use Rattle.index_format.specs.BlockSteps.{IsWholeTable, log_after, log_with};
+ghost use Rattle.rule_store.specs.Table.{IsWholeTable};
+ghost use Rattle.index_format.specs.BlockSteps.{log_after, log_with};
 ghost use Rattle.index_format.specs.LogReading.{IsReadBehind, reached};
 ghost use Rattle.index_format.specs.declared.outline.entries.LogRest as declared;
 

@@ -8,6 +8,8 @@ use bit_stream::{BitFault, BitReader};
 use track_types::{FormatFault, Kind};
 
 /// A number that says itself how long it is, as an element of a section.
+// A flaw is made at a caller's own way out: there are many numbers, and hardly a flaw.
+#[inline(always)]
 #[tactic(auto, unfolding(crate::specs::Elements::told_at))]
 pub fn told(reader: &mut BitReader<'_>, place: Place, index: usize) -> Result<u64, FormatFault>
     ensures exact { GivesElement (λ number. number) result reader.new
@@ -21,6 +23,7 @@ pub fn told(reader: &mut BitReader<'_>, place: Place, index: usize) -> Result<u6
 }
 
 /// A number of so many bits, as an element of a section.
+#[inline(always)]
 #[tactic(auto, unfolding(crate::specs::Elements::wide_at))]
 pub fn wide(
     reader: &mut BitReader<'_>,

@@ -2,7 +2,7 @@ ghost use Rattle.std.specs.Prelude.{◌≡◌, ◌++◌, ◌<◌, IfOk, OnOk, le
 ghost use Rattle.track_types.specs.declared.limit.TheConstants.{MAX_INDEX};
 ghost use Rattle.index_format.specs.IsOutline.{IsOutline};
 ghost use Rattle.index_format.specs.OutlineFile.{frame_rules, outline_bits, outline_bytes, outline_header};
-ghost use Rattle.index_format.specs.BlockSteps.{IsWholeTable};
+ghost use Rattle.rule_store.specs.Table.{IsWholeTable};
 
 use crate::encoding::put_header;
 use crate::header::Header;

@@ -5,8 +5,7 @@ use Rattle.track_types.specs.Boxes.{moved_box}
 use Rattle.track_types.specs.declared.frame.Frame.{Frame}
 use Rattle.track_types.specs.declared.cell.Cell.{Cell}
 use Rattle.log_bounds.specs.declared.bounds.LogBounds.{LogBounds}
-use Rattle.snapshots.proofs.BoundedLemmas.{blocks_speed-bounded, tracks-bounded}
-use Rattle.snapshots.proofs.ByObjectLemmas.{length-all_blocks}
+use Rattle.snapshots.proofs.BoundedLemmas.{blocks_speed-bounded, length-anchors, tracks-bounded}
 use Rattle.snapshots.proofs.bounded.keep_bounded.Given.{Over}
 use Rattle.snapshots.proofs.bounded.keep_bounded.Goals as goal
 
@@ -19,8 +18,8 @@ keep_tracks-requires g c =
     record {
       found = found;
       long = ap length (areas ∙ c.in_ok-areas.ensures.ok)
-          ∙ length-map c.args.bounds.now (λ (log : LogBounds). moved_box c.frame.result.now.base log.area) ∙ c.requires
-          ∙ length-all_blocks view found.snapshot;
+          ∙ length-map c.args.bounds.now (λ (log : LogBounds). moved_box c.frame.result.now.base log.area)
+          ∙ length-anchors view found.snapshot c.args.bounds.now c.requires.bounds;
       from = subst (λ (f : Frame). All (IsFrom f.base) c.deref.result.now) frame
           (subst (All (IsFrom c.frame.result.now.base)) (sym areas) c.in_ok-areas.ensures.from);
     }
@@ -32,6 +31,6 @@ returns-clause-speed g c = λ rules are.
 pub returns-clause-tracks : goal.returns-clause-tracks
 returns-clause-tracks g c = λ rules are.
     let view = c.args.snapshot.now in
-    c.in_ok-tracks.ensures rules (c.deref.ensures.value ∙ c.in_ok-areas.ensures.ok
+    c.in_ok-tracks.ensures.tracks rules (c.deref.ensures.value ∙ c.in_ok-areas.ensures.ok
     ∙ ap (λ (f : Frame). map (λ (log : LogBounds). moved_box f.base log.area) c.args.bounds.now) c.frame.ensures.value
     ∙ tracks-bounded rules view c.args.bounds.now are)

@@ -89,8 +89,8 @@ index-requires-in-loop-place g c =
     ) in
     search (rules, within)
 
-pub is_last-requires : goal.is_last-requires
-is_last-requires g c = here g (goal.at.is_last-requires g c).After-len-place-end c.loop-place.place c.loop-place-test.true
+pub is_last-requires-clause-within : goal.is_last-requires-clause-within
+is_last-requires-clause-within g c = here g (goal.at.is_last-requires-clause-within g c).After-len-place-end c.loop-place.place c.loop-place-test.true
 
 pub overflow_add-leaf : goal.overflow_add-leaf
 overflow_add-leaf g c =

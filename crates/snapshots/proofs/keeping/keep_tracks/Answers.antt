@@ -33,13 +33,13 @@ store-requires c =
     (boxes (goal.at.store-requires c).After-deref-4) in
     record { header = its.header; places = its.places; from = its.from; codes = its.codes_are; few = its.few }
 
-pub returns : goal.returns
-returns c =
+pub returns-clause-tracks : goal.returns-clause-tracks
+returns-clause-tracks c =
     let view = c.args.snapshot.now in
     let blocks : c.deref-2.result.now ≡ blocks_by_leaf view = c.deref-2.ensures.value ∙ c.requires.found.blocks_are in
     IfOk-weaker c.store.result _ _ (λ kept keeps rules areas.
     subst (λ bs. IsKept view.frame rules bs kept) blocks
     (subst (λ (f : Frame). IsKept f rules c.deref-2.result.now kept) c.frame-frame.ensures.value
-    (keeps rules (boxes (goal.at.returns c).After-deref-4
+    (keeps rules (boxes (goal.at.returns-clause-tracks c).After-deref-4
     ∙ tracks-picked view rules c.args.areas.now c.requires.found.snapshot areas
-    ∙ ap (map (track_box rules)) (sym blocks))))) c.store.ensures
+    ∙ ap (map (track_box rules)) (sym blocks))))) c.store.ensures.tracks

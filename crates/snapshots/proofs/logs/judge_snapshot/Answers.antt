@@ -55,4 +55,4 @@ keep_tracks-requires g c =
 
 pub returns-clause-tracks : goal.returns-clause-tracks
 returns-clause-tracks g c =
-    c.in_ok-tracks.ensures c.args.rules.now (areas g (goal.at.returns-clause-tracks g c).After-deref-4)
+    c.in_ok-tracks.ensures.tracks c.args.rules.now (areas g (goal.at.returns-clause-tracks g c).After-deref-4)

@@ -2,6 +2,7 @@ use Rattle.std.proofs.Common.{◌≡◌, ℕ, ℤ, List, max, ap, ◌+ℤ◌, le
 use Rattle.std.proofs.lemmas.Int.{ints}
 use Rattle.std.specs.Prelude.{slice_index}
 use Rattle.rule_store.specs.Entry.{entry_of}
+use Rattle.track_types.specs.Near.{IsCellWithin}
 use Rattle.snapshots.specs.Ahead.{stored_entry}
 use Rattle.snapshots.specs.Parts.{block_log}
 use Rattle.snapshots.proofs.AheadLemmas.{range-at}
@@ -29,6 +30,7 @@ pub loop-place-init : goal.loop-place-init
 loop-place-init g c = record {
   reading = reading-none c.args.frame.now c.args.ahead.now.rules c.args.block.now.cell
       (block_log c.args.ahead.now.rules c.args.block.now) c.requires.cell;
+  begins = refl;
   fastest = omega arith;
   boxed = c.of.ensures;
   at = omega (arith, c.requires.at);
@@ -45,6 +47,10 @@ returns-then-passes_grid-clause-err g c =
     c.next-entry.result (its g (goal.at.returns-then-passes_grid-clause-err g c).After-next-entry)
     (sym c.if-passes_grid.true ∙ c.passes_grid.ensures)
 
+-- the bounds begin in the grid
+pub with-bounds-requires-clause-from : goal.with-bounds-requires-clause-from
+with-bounds-requires-clause-from g c = subst IsCellWithin (sym c.loop-place.invariant.begins) c.requires.cell
+
 pub loop-place-preserved : goal.loop-place-preserved
 loop-place-preserved g c =
     let block = c.args.block.now in
@@ -59,8 +65,11 @@ loop-place-preserved g c =
           place.invariant.reading
           (omega (arith, c.loop-place-test.true, length-block_log c.args.ahead.now.rules block c.requires.log)) entry its x y c.from-duration.result (sym c.if-passes_grid.false ∙ c.passes_grid.ensures) c.next-entry.ensures.reach
           (omega (arith, ints)) (omega (arith, ints)) c.from-duration.ensures;
+      begins = c.with-bounds.ensures.from ∙ place.invariant.begins;
       fastest = speed_since-more c.args.ahead.now.rules block.cell log c.args.fastest place.place place.bounds.speed
-          (hull_speed block.cell place.cell place.duration entry.hull) c.with-bounds.result.speed c.with-bounds.ensures.speed
+          (hull_speed block.cell place.cell place.duration entry.hull) c.with-bounds.result.speed
+          (c.with-bounds.ensures.speed
+          ∙ ap (λ from. max place.bounds.speed (hull_speed from place.cell place.duration entry.hull)) place.invariant.begins)
           place.invariant.fastest
           (speed-here c.args.ahead.now.rules block.cell log place.place place.cell place.duration entry
           (hull_speed block.cell place.cell place.duration entry.hull) refl place.invariant.reading.stands

@@ -10,6 +10,7 @@ abbrev pub invariant-loop-place : goal.invariant-loop-place
 invariant-loop-place g l = record {
   reading : IsReading l.fn.frame l.fn.ahead.rules l.fn.block.cell (block_log l.fn.ahead.rules l.fn.block) l.place l.cell
       l.duration;
+  begins : l.bounds.from ≡ l.fn.block.cell;
   fastest : l.bounds.speed ≡ max l.fn.fastest (speed_before l.fn.ahead.rules l.fn.block.cell
       (block_log l.fn.ahead.rules l.fn.block) l.place);
   boxed : l.bounds.area ≡ box_before l.fn.ahead.rules l.fn.block.cell (block_log l.fn.ahead.rules l.fn.block) l.place;

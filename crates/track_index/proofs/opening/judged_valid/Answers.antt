@@ -1,11 +1,62 @@
-use Rattle.std.proofs.Common.{◌≡◌, Some}
-use Rattle.track_index.specs.CheckFlaws.{check_flaw}
-use Rattle.track_index.proofs.CheckLemmas.{check_flaw_valid}
+use Rattle.std.proofs.Common.{◌≡◌, None, Some, ap, length, refl, subst, sym, ◌∙◌}
+use Rattle.rule_store.specs.Flaws.{AreRules}
+use Rattle.rule_store.specs.Table.{IsWholeTable}
+use Rattle.rule_store.specs.View.{rules_with}
+use Rattle.rule_store.specs.declared.entry_table.EntryTable.{EntryTable}
+use Rattle.track_types.specs.declared.parts.Parts.{Parts}
+use Rattle.snapshots.specs.Parts.{rules_in}
+use Rattle.snapshots.proofs.NoFlawLemmas.{rules_flaw-sound}
+use Rattle.track_index.specs.CheckFlaws.{snapshots_flaw, snapshots_with, AreShapedPeriods}
+use Rattle.track_index.proofs.CheckLemmas.{unflawed-valid}
+use Rattle.track_index.proofs.OpeningLemmas.{snapshots_in-read, AreShaped-periods, AreShaped-rules}
 use Rattle.track_index.proofs.opening.judged_valid.Goals as goal
+use Rattle.track_index.proofs.opening.judged_valid.Goals.{After-as_slice}
+
+pub check_periods-requires : goal.check_periods-requires
+check_periods-requires c =
+    subst (λ objects. AreShapedPeriods c.args.parts.frame (length objects) c.args.parts.periods)
+    (sym c.as_slice.ensures) (AreShaped-periods c.args.parts c.requires.valid.shaped (unflawed-valid c.args.parts c.requires.valid).1)
+
+-- the periods have no flaw
+unflawed : (c : After-as_slice) → snapshots_flaw (snapshots_with c.args.parts.frame (length c.as_slice.result.now) c.args.parts.periods) ≡ None
+unflawed c =
+    ap snapshots_flaw (snapshots_in-read c.args.parts c.as_slice.result.now c.as_slice.ensures)
+    ∙ (unflawed-valid c.args.parts c.requires.valid).2
 
 pub unreachable-requires : goal.unreachable-requires
 unreachable-requires c =
-    let none = check_flaw_valid c.args.parts c.requires in
-    let some : check_flaw c.args.parts ≡ Some c.in-Err-Flaw.field-0-0 =
-    rw c.in-Err-Flaw.field-0-is at c.in-Err-Flaw.ensures.flaw in
+    let none = unflawed (goal.at.unreachable-requires c).After-as_slice in
+    let some : snapshots_flaw (snapshots_with c.args.parts.frame (length c.as_slice.result.now) c.args.parts.periods)
+    ≡ Some c.in-Err-Flaw.field-0-0 = rw c.in-Err-Flaw.field-0-is at c.in-Err-Flaw.ensures.flaw in
     cc
+
+-- the height and the period are those of the table
+ruled : (table : EntryTable) (parts : Parts) → IsWholeTable (rules_in parts) table
+    → rules_with parts.alphabet parts.rules parts.symbols table.height table.period ≡ rules_in parts
+ruled table parts whole =
+    ap (λ height. rules_with parts.alphabet parts.rules parts.symbols height table.period) whole.known.height
+    ∙ ap (rules_with parts.alphabet parts.rules parts.symbols parts.frame.height) whole.known.period
+
+pub of_table-requires-clause-rules : goal.of_table-requires-clause-rules
+of_table-requires-clause-rules c =
+    subst AreRules (sym (ruled c.args.table c.args.parts c.requires.table)) (record {
+      shaped = AreShaped-rules c.args.parts c.requires.valid.shaped;
+      flawless = rules_flaw-sound (rules_in c.args.parts) c.requires.valid.sound.rules;
+    })
+
+pub of_table-requires-clause-table : goal.of_table-requires-clause-table
+of_table-requires-clause-table c =
+    subst (λ rules. IsWholeTable rules c.args.table) (sym (ruled c.args.table c.args.parts c.requires.table)) c.requires.table
+
+pub returns : goal.returns
+returns c =
+    let none = unflawed-valid c.args.parts c.requires.valid in
+    record {
+      frame_is = refl;
+      objects_are = refl;
+      rules_are = c.of_table.ensures ∙ ruled c.args.table c.args.parts c.requires.table;
+      snaps_are = c.in-Ok.ensures.ok ∙ snapshots_in-read c.args.parts c.as_slice.result.now c.as_slice.ensures;
+      flawless = none.0;
+      total = none.1;
+      snapshots = none.2;
+    }

@@ -1,5 +1,6 @@
 use Rattle.rule_store.specs.View.{RulesView}
-use Rattle.index_format.specs.BlockSteps.{IsWholeTable, told_of}
+use Rattle.rule_store.specs.Table.{IsWholeTable}
+use Rattle.index_format.specs.BlockSteps.{told_of}
 use Rattle.index_format.specs.LogReading.{IsBounded}
 use Rattle.index_format.proofs.BlockLemmas.{AreObjectsRead}
 use Rattle.index_format.proofs.outline.blocks.blocks_in.Given as goal

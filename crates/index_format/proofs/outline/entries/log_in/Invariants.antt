@@ -1,6 +1,6 @@
 use Rattle.std.specs.Prelude.{◌≡◌}
 use Rattle.rule_store.specs.View.{RulesView}
-use Rattle.index_format.specs.BlockSteps.{IsWholeTable}
+use Rattle.rule_store.specs.Table.{IsWholeTable}
 use Rattle.index_format.specs.LogReading.{IsReadBehind}
 use Rattle.index_format.proofs.EntryLemmas.{AreEntriesRead}
 use Rattle.index_format.proofs.outline.entries.log_in.Given as goal

@@ -2,7 +2,7 @@ use Rattle.std.proofs.Common.{length, [], refl, sym, ap, ◌∙◌, arith}
 use Rattle.std.proofs.lemmas.Result.{err_from_is_err_and}
 use Rattle.index_format.specs.RuleReading.{IsRuleTable}
 use Rattle.index_format.specs.OutlineFile.{frame_rules}
-use Rattle.index_format.specs.BlockSteps.{IsWholeTable}
+use Rattle.rule_store.specs.Table.{IsWholeTable}
 use Rattle.index_format.proofs.AscentLemmas.{values-read}
 use Rattle.index_format.proofs.LayerReadLaws.{rules-only}
 use Rattle.index_format.proofs.ReadLemmas.{after-blocks, after-end, after-done}
@@ -112,3 +112,15 @@ returns-clause-bounds c =
     } in
     let table = c.in_ok-rules.ensures.table view begun in
     c.in_ok-read.ensures.bounds (frame_rules header.frame values c.in_ok-rules.rules) (record { known = table.known; all = table.many })
+
+pub returns-clause-table : goal.returns-clause-table
+returns-clause-table c =
+    let header = c.args.header in
+    let values = c.in_ok-values.values in
+    let view = frame_rules header.frame values [] in
+    let begun : IsRuleTable view [] c.in_ok-table.table = record {
+      known = c.in_ok-table.ensures.entries view (sym c.as_slice.ensures) refl refl;
+      many = omega (arith, c.in_ok-table.ensures.many, ap length c.as_slice.ensures);
+    } in
+    let table = c.in_ok-rules.ensures.table view begun in
+    record { known = table.known; all = table.many }

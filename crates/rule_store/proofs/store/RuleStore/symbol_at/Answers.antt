@@ -13,4 +13,4 @@ returns-clause-within g c =
     get_or_from_slice_get view.symbols c.args.place c.at.result 0
     (rw (ap (λ v. v.symbols) c.self.view_is) at c.at.ensures.value) in
     rw read at (symbol-known (symbols_in view) view.symbols c.args.place
-    (no_flaws view rules.flawless).symbols c.requires)
+    (no_flaws view rules.flawless).symbols c.requires.within)

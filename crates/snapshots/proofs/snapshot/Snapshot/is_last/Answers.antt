@@ -6,21 +6,21 @@ use Rattle.snapshots.proofs.PlacesLemmas.{few_places, goes_on_at, place_left, sa
 use Rattle.snapshots.proofs.snapshot.Snapshot.is_last.Goals as goal
 
 pub returns-clause-room : goal.returns-clause-room
-returns-clause-room g c = omega (arith, c.requires, few_places c.args.self.now c.blocks-2.ensures.snapshot)
+returns-clause-room g c = omega (arith, c.requires.within, few_places c.args.self.now c.blocks-2.ensures.snapshot)
 
 pub returns-clause-more : goal.returns-clause-more
 returns-clause-more g c = λ other.
     let bit : get_or c.args.self.now.parts.lasts c.args.place false ≡ c.get.result =
     sym (ap (λ bits. get_or bits c.args.place false) c.blocks-2.ensures.blocks.lasts)
     ∙ get_or_from_slice_get c.blocks-2.result.now.lasts c.args.place c.get.result false c.get.ensures.value in
-    goes_on_at c.args.self.now c.args.place c.blocks-2.ensures.snapshot c.requires (bit ∙ other)
+    goes_on_at c.args.self.now c.args.place c.blocks-2.ensures.snapshot c.requires.within (bit ∙ other)
 
 pub returns-clause-left : goal.returns-clause-left
 returns-clause-left g c =
     let bit : get_or c.args.self.now.parts.lasts c.args.place false ≡ c.get.result =
     sym (ap (λ bits. get_or bits c.args.place false) c.blocks-2.ensures.blocks.lasts)
     ∙ get_or_from_slice_get c.blocks-2.result.now.lasts c.args.place c.get.result false c.get.ensures.value in
-    place_left c.args.self.now c.args.place c.get.result c.blocks-2.ensures.snapshot c.requires bit
+    place_left c.args.self.now c.args.place c.get.result c.blocks-2.ensures.snapshot c.requires.within bit
 
 pub returns-clause-next : goal.returns-clause-next
 returns-clause-next g c =
@@ -28,5 +28,5 @@ returns-clause-next g c =
     let bit : get_or view.parts.lasts c.args.place false ≡ c.get.result =
     sym (ap (λ bits. get_or bits c.args.place false) c.blocks-2.ensures.blocks.lasts)
     ∙ get_or_from_slice_get c.blocks-2.result.now.lasts c.args.place c.get.result false c.get.ensures.value in
-    rank_of-step view.parts.lasts c.args.place (omega (arith, c.requires, same_length view c.blocks-2.ensures.snapshot))
+    rank_of-step view.parts.lasts c.args.place (omega (arith, c.requires.within, same_length view c.blocks-2.ensures.snapshot))
     ∙ ap (λ b. leaf_at view c.args.place + cond b 1 0) bit

@@ -22,9 +22,9 @@ unreachable-requires g c =
     let at = at_place g (goal.at.unreachable-requires g c).In_ok-place in
     omega (arith, at.1, length-by_leaf (snapshot_in c.args.self.now c.args.period), ap length c.in_default.ensures.none)
 
-pub block-requires : goal.block-requires
-block-requires g c =
-    let at = at_place g (goal.at.block-requires g c).In_ok-place in
+pub block-requires-clause-within : goal.block-requires-clause-within
+block-requires-clause-within g c =
+    let at = at_place g (goal.at.block-requires-clause-within g c).In_ok-place in
     let view : SnapshotView = snapshot_in c.args.self.now c.args.period in
     let count = count_is view at.0 (rules_in c.args.self.now) c.in-Some.kept.now c.in-Some.ensures.kept in
     omega (arith, at.1, count, length-by_leaf view)

@@ -7,6 +7,7 @@ use Rattle.track_types.specs.declared.limit.TheConstants.{MAX_SPAN}
 use Rattle.track_types.specs.declared.parts.Parts.{Parts}
 use Rattle.snapshots.specs.Speed.{speed_of}
 use Rattle.snapshots.specs.View.{SnapshotView}
+use Rattle.snapshots.specs.TrackTree.{IsOfPeriod}
 use Rattle.snapshots.specs.Stores.{join_of, AreTracks}
 use Rattle.snapshots.proofs.JoinLemmas.{length-snaps, logs_flaw-none, reads-within, turn-flaw, turn-more, turn-reads}
 use Rattle.snapshots.proofs.JoinLemmas.{turn-speeds, turn-symbols, turn-tracks, IsJoining, IsTurn, IsTurn-read}
@@ -23,7 +24,7 @@ turn_of : (g : Over) (c : After-judge_snapshot-arg-1 g)
     c.loop-snapshot.snapshot-index c.snapshot-item.result
 turn_of g c =
     IsTurn-read _ c.args.rules c.args.snaps.items c.deref-snapshot-items.result.now c.loop-snapshot.snapshot-index
-    c.snapshot-item.result c.requires c.deref-snapshot-items.ensures.value c.loop-snapshot-test.true c.snapshot-item.is
+    c.snapshot-item.result c.requires.of c.deref-snapshot-items.ensures.value c.loop-snapshot-test.true c.snapshot-item.is
 
 -- what is known after the last turn
 all_joined : (g : Over) (c : After-sizes g)
@@ -38,7 +39,7 @@ all_joined g c =
       arith,
       c.loop-snapshot-test.false,
       ap length c.deref-snapshot-items.ensures.value,
-      length-snaps parts c.args.rules c.args.snaps.items c.requires,
+      length-snaps parts c.args.rules c.args.snaps.items c.requires.of,
     ) in
     subst (λ n. IsJoining parts n c.args.steps.now c.loop-snapshot.steps
     × (c.loop-snapshot.speeds.items ≡ map (speed_of parts) (range_with_len 0 n))
@@ -49,14 +50,14 @@ all_joined g c =
 pub overflow_cast-number : goal.overflow_cast-number
 overflow_cast-number g c =
     let parts : Parts = join_of c.args.frame c.args.objects c.args.rules c.args.snaps.items in
-    let short : c.args.frame.span ≤ MAX_SPAN = c.requires.shaped.header.short in
+    let short : c.args.frame.span ≤ MAX_SPAN = c.requires.of.shaped.header.short in
     omega (
       arith,
       c.len-number.ensures,
       c.loop-snapshot.invariant.filled,
       c.loop-snapshot-test.true,
       ap length c.deref-snapshot-items.ensures.value,
-      length-snaps parts c.args.rules c.args.snaps.items c.requires,
+      length-snaps parts c.args.rules c.args.snaps.items c.requires.of,
       short,
       div-le_self c.args.frame.span c.args.frame.period,
     )
@@ -68,6 +69,8 @@ judge_snapshot-requires g c =
       number = c.len-number.ensures ∙ c.loop-snapshot.invariant.filled
           ∙ sym (ap (λ (view : SnapshotView). view.number) turn.item_is);
       symbols = turn-symbols _ _ _ _ _ turn;
+      period = c.requires.may _;
+      may = λ read needed. c.requires.may read;
     }
 
 pub returns-in_err-judged-clause-flaw : goal.returns-in_err-judged-clause-flaw
@@ -119,7 +122,9 @@ loop-snapshot-preserved g c =
       tracks = subst (AreTracks _ (c.loop-snapshot.snapshot-index + 1))
           (sym c.push_reserved-in-loop-snapshot.ensures.items)
           (turn-tracks _ _ _ _ _ turn c.loop-snapshot.tracks.items c.in_ok-judged.judged.tracks so_far.tracks
-          c.in_ok-judged.ensures.tracks);
+          c.in_ok-judged.ensures.tracks
+          (subst (λ n. IsOfPeriod n c.in_ok-judged.judged.tracks) (c.len-number.ensures ∙ so_far.filled)
+          c.in_ok-judged.ensures.period));
       tracks_filled = omega (arith, c.push_reserved-in-loop-snapshot.ensures.len, so_far.tracks_filled);
       tracks_room = omega (arith, c.push_reserved-in-loop-snapshot.ensures.capacity, so_far.tracks_room);
     }
@@ -128,17 +133,17 @@ pub invariant_of-result : goal.invariant_of-result
 invariant_of-result g c =
     let all = all_joined g (goal.at.invariant_of-result g c).After-sizes in
     AreStores-joined _ c.args.rules c.args.snaps.items c.loop-snapshot.speeds.items c.loop-snapshot.tracks.items
-    c.args.steps.now c.loop-snapshot.steps c.requires c.sizes.ensures.sound all.0 all.1 all.2
+    c.args.steps.now c.loop-snapshot.steps c.requires.of c.sizes.ensures.sound all.0 all.1 all.2
 
 pub returns-clause-exact : goal.returns-clause-exact
 returns-clause-exact g c =
     let all = all_joined g (goal.at.returns-clause-exact g c).After-sizes in
-    logs_flaw-none _ c.args.rules c.args.snaps.items c.requires c.args.steps.now c.loop-snapshot.steps all.0
+    logs_flaw-none _ c.args.rules c.args.snaps.items c.requires.of c.args.steps.now c.loop-snapshot.steps all.0
 
 pub returns-clause-sound : goal.returns-clause-sound
 returns-clause-sound g c =
     let all = all_joined g (goal.at.returns-clause-sound g c).After-sizes in
-    IsSound-joined _ c.args.rules c.args.snaps.items c.args.steps.now c.loop-snapshot.steps c.requires
+    IsSound-joined _ c.args.rules c.args.snaps.items c.args.steps.now c.loop-snapshot.steps c.requires.of
     c.sizes.ensures.sound all.0
 
 pub returns-clause-within : goal.returns-clause-within
@@ -146,8 +151,8 @@ returns-clause-within g c =
     let all = all_joined g (goal.at.returns-clause-within g c).After-sizes in
     let parts : Parts = join_of c.args.frame c.args.objects c.args.rules c.args.snaps.items in
     within-reach parts (record {
-      shaped = c.requires.shaped;
-      sound = IsSound-joined parts c.args.rules c.args.snaps.items c.args.steps.now c.loop-snapshot.steps c.requires
+      shaped = c.requires.of.shaped;
+      sound = IsSound-joined parts c.args.rules c.args.snaps.items c.args.steps.now c.loop-snapshot.steps c.requires.of
           c.sizes.ensures.sound all.0;
     })
 
@@ -157,4 +162,4 @@ returns-clause-tracks g c = λ number within. on-tracks _ number
 pub returns-clause-cost : goal.returns-clause-cost
 returns-clause-cost g c =
     let all = all_joined g (goal.at.returns-clause-cost g c).After-sizes in
-    reads-within _ c.args.rules c.args.snaps.items c.requires c.args.steps.now c.loop-snapshot.steps all.0
+    reads-within _ c.args.rules c.args.snaps.items c.requires.of c.args.steps.now c.loop-snapshot.steps all.0

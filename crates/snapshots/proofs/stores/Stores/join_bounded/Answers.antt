@@ -1,15 +1,17 @@
 use Rattle.std.proofs.Common.{◌≡◌, ◌<◌, ◌+◌, ◌≤◌, rules, arith, ap, get_or, length, map, subst, sym, vec_len, ◌∙◌}
 use Rattle.std.specs.List.{range_with_len}
+use Rattle.std.proofs.Math.Nat.{div-le_self}
 use Rattle.std.proofs.lemmas.Iterator.Adapters.{YieldsList-from_vec}
 use Rattle.std.proofs.lemmas.Iterator.Consumers.{YieldsList-end, YieldsList-turn}
-use Rattle.std.proofs.lemmas.List.{length_push, length-map}
+use Rattle.std.proofs.lemmas.List.{length_push}
 use Rattle.track_types.specs.Frame.{periods_of}
+use Rattle.track_types.specs.declared.limit.TheConstants.{MAX_SPAN}
 use Rattle.track_types.specs.declared.parts.Parts.{Parts}
-use Rattle.snapshots.specs.Bounded.{blocks_bounds, bounds_from_base}
+use Rattle.snapshots.specs.Bounded.{blocks_bounds}
 use Rattle.snapshots.specs.Speed.{speed_of}
 use Rattle.snapshots.specs.Stores.{join_of, AreTracks}
-use Rattle.snapshots.specs.View.{all_blocks}
-use Rattle.snapshots.proofs.BoundedLemmas.{turn-bounds}
+use Rattle.snapshots.specs.TrackTree.{IsOfPeriod}
+use Rattle.snapshots.proofs.BoundedLemmas.{anchors-bounded, turn-bounds}
 use Rattle.snapshots.proofs.JoinLemmas.{length-snaps, reads-within, snapshot-read, turn-flawless, turn-more, turn-reads}
 use Rattle.snapshots.proofs.JoinLemmas.{turn-speeds, turn-tracks, IsJoining, IsTurn}
 use Rattle.snapshots.proofs.SoundPartsLemmas.{AreStores-joined}
@@ -80,12 +82,28 @@ all_joined g c =
     × AreTracks parts n c.loop-of_period.tracks.items) last
     (c.loop-of_period.invariant.joining, c.loop-of_period.invariant.speeds, c.loop-of_period.invariant.tracks)
 
+-- the number of the period fits its type
+pub overflow_cast-number : goal.overflow_cast-number
+overflow_cast-number g c =
+    let parts : Parts = join_of c.args.frame c.args.objects c.args.rules c.args.snaps.items in
+    let short : c.args.frame.span ≤ MAX_SPAN = c.requires.of.shaped.header.short in
+    omega (
+      arith,
+      c.len-number.ensures,
+      c.loop-of_period.invariant.filled,
+      within g (goal.at.overflow_cast-number g c).After-index-snapshot,
+      length-snaps parts c.args.rules c.args.snaps.items c.requires.of,
+      short,
+      div-le_self c.args.frame.span c.args.frame.period,
+    )
+
 pub keep_bounded-requires : goal.keep_bounded-requires
 keep_bounded-requires g c =
     let at = (goal.at.keep_bounded-requires g c).After-index-snapshot in
-    ap length (c.deref.ensures.value ∙ bounded g at)
-    ∙ length-map (all_blocks c.index-snapshot.result.now)
-    (bounds_from_base c.index-snapshot.result.now.frame c.args.rules)
+    record {
+      bounds = anchors-bounded c.args.rules c.index-snapshot.result.now c.deref.result.now (c.deref.ensures.value ∙ bounded g at);
+      may = c.requires.may _;
+    }
 
 pub returns-in_err-kept-clause-cost : goal.returns-in_err-kept-clause-cost
 returns-in_err-kept-clause-cost g c =
@@ -124,7 +142,8 @@ loop-of_period-preserved g c =
       tracks = subst (AreTracks _ (length c.loop-of_period.yielded + 1))
           (sym c.push_reserved-in-loop-of_period.ensures.items)
           (turn-tracks _ _ _ _ _ turn c.loop-of_period.tracks.items kept.tracks so_far.tracks
-          (c.in_ok-kept.ensures.tracks c.args.rules bounds));
+          (c.in_ok-kept.ensures.tracks c.args.rules bounds)
+          (subst (λ n. IsOfPeriod n kept.tracks) (c.len-number.ensures ∙ so_far.filled) c.in_ok-kept.ensures.period));
       tracks_filled = omega (arith, c.push_reserved-in-loop-of_period.ensures.len, so_far.tracks_filled);
       tracks_room = omega (arith, c.push_reserved-in-loop-of_period.ensures.capacity, so_far.tracks_room);
     })

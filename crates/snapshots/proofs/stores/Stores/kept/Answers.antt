@@ -4,8 +4,8 @@ use Rattle.track_types.specs.declared.parts.Parts.{Parts}
 use Rattle.snapshots.specs.Parts.{rules_in, snapshot_in}
 use Rattle.snapshots.specs.Stores.{join_of}
 use Rattle.snapshots.specs.Tracks.{blocks_by_leaf}
-use Rattle.snapshots.specs.TrackTree.{AreKept, IsKept}
-use Rattle.snapshots.proofs.TracksLemmas.{tracks-at}
+use Rattle.snapshots.specs.TrackTree.{AreKept, IsKept, IsOfPeriod}
+use Rattle.snapshots.proofs.TracksLemmas.{numbers-at, tracks-at}
 use Rattle.snapshots.proofs.stores.Stores.kept.Goals as goal
 use Rattle.snapshots.proofs.stores.Stores.kept.Goals.{After-index}
 
@@ -37,3 +37,13 @@ returns-in-Some-clause-kept c =
     (known (goal.at.returns-in-Some-clause-kept c).After-index) in
     subst (AreKept c.args.self.now.frame (rules_in c.args.self.now)
     (blocks_by_leaf (snapshot_in c.args.self.now c.args.period))) (sym c.deref.ensures) are
+
+pub returns-in-Some-clause-period : goal.returns-in-Some-clause-period
+returns-in-Some-clause-period c =
+    let is = c.self.inside in
+    let parts : Parts = join_of is.frame is.objects is.rules is.snaps.items in
+    let within = subst (λ (p : Parts). c.args.period < periods_of p.frame) (sym c.self.view_is) c.requires in
+    let numbered = subst (IsOfPeriod c.args.period) (sym c.index.ensures)
+    (numbers-at parts is.rules is.snaps.items is.speeds.items is.tracks.items c.args.period c.index.result.now
+    c.self.invariant within) in
+    rw c.deref.ensures (subst (IsOfPeriod c.args.period) c.in-Some.is numbered)

@@ -8,14 +8,14 @@ use Rattle.snapshots.specs.Parts.{rules_in, snapshot_in}
 use Rattle.snapshots.specs.Sound.{IsBlock, IsSnapshot}
 use Rattle.snapshots.specs.Stores.{join_of}
 use Rattle.snapshots.specs.Tracks.{blocks_by_leaf, may_hold}
-use Rattle.snapshots.specs.TrackTree.{IsKept}
+use Rattle.snapshots.specs.TrackTree.{IsKept, IsOfPeriod}
 use Rattle.snapshots.specs.TrackWalk.{block_kept, kept_budget, blocks_budget, blocks_left}
 use Rattle.snapshots.specs.View.{SnapshotView}
 use Rattle.snapshots.specs.declared.track_tree.TrackTree.{TrackTree}
 use Rattle.snapshots.proofs.LeafOrderLemmas.{by_leaf-are, by_leaf-weighs}
 use Rattle.snapshots.proofs.ReachLemmas.{IsSnapshot-valid}
 use Rattle.snapshots.proofs.TrackLemmas.{on-tracks}
-use Rattle.snapshots.proofs.TracksLemmas.{found-blocks, found-reads, tracks-at, tracks_budget-is, tracks_left-is}
+use Rattle.snapshots.proofs.TracksLemmas.{found-blocks, found-reads, numbers-at, tracks-at, tracks_budget-is, tracks_left-is}
 use Rattle.snapshots.proofs.stores.Stores.tracks.Given.{Over}
 use Rattle.snapshots.proofs.stores.Stores.tracks.Goals as goal
 use Rattle.snapshots.proofs.stores.Stores.tracks.Goals.{After-index}
@@ -122,3 +122,13 @@ returns-in-None-clause-budget g c =
 
 pub returns-in-None-clause-on_tracks : goal.returns-in-None-clause-on_tracks
 returns-in-None-clause-on_tracks g c = on-tracks c.args.self.now c.args.period
+
+pub returns-in-Some-clause-needs : goal.returns-in-Some-clause-needs
+returns-in-Some-clause-needs g c =
+    let is = c.self.inside in
+    let parts : Parts = join_of is.frame is.objects is.rules is.snaps.items in
+    let within = subst (λ (p : Parts). c.args.period < periods_of p.frame) (sym c.self.view_is) c.requires in
+    let numbered = subst (IsOfPeriod c.args.period) c.in-Some.is (subst (IsOfPeriod c.args.period) (sym c.index.ensures)
+    (numbers-at parts is.rules is.snaps.items is.speeds.items is.tracks.items c.args.period c.index.result.now
+    c.self.invariant within)) in
+    rw (c.new-in-Some.ensures, c.new.ensures.kept, c.deref.ensures, numbered) (λ read needed. needed)

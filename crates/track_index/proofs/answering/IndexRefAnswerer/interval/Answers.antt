@@ -1,5 +1,8 @@
-use Rattle.std.proofs.Common.{◌≡◌, ◌≤◌, ◌+◌, w64, to_z, of_z, arith, subst}
+use Rattle.std.proofs.Common.{◌≡◌, ◌≤◌, ◌+◌, ℤ, w64, to_z, of_z, arith, subst, sym}
 use Rattle.std.proofs.lemmas.Int.{ints}
+use Rattle.step_count.specs.Reads.{ReadsWithin}
+use Rattle.snapshots.specs.Needs.{needs_between}
+use Rattle.track_types.specs.declared.frame.Frame.{Frame}
 use Rattle.track_types.specs.declared.parts.Parts.{Parts}
 use Rattle.interval_search.specs.Cost.{interval_cost}
 use Rattle.track_index.specs.Cost.{cost_of}
@@ -17,3 +20,14 @@ returns-clause-cost g c =
     (subst (λ (p : Parts). c.interval_of.new.steps
     ≤ c.args.steps.now + interval_cost p (to_z w64 (of_z w64 c.args.from)) (to_z w64 (of_z w64 c.args.to)) c.args.region.now)
     c.stores.ensures.value c.interval_of.ensures.cost))
+
+pub interval_of-requires-clause-may : goal.interval_of-requires-clause-may
+interval_of-requires-clause-may g c =
+    let frame : Frame = c.args.self.index.now.frame in
+    let low : ℤ = to_z w64 (of_z w64 c.args.from) in
+    let high : ℤ = to_z w64 (of_z w64 c.args.to) in
+    let from : low ≡ c.args.from = omega (arith, ints) in
+    let to : high ≡ c.args.to = omega (arith, ints) in
+    subst (λ (p : Parts). ReadsWithin (needs_between p.frame low high) g.L.Reads.may) (sym c.stores.ensures.value)
+    (subst (λ z. ReadsWithin (needs_between frame z high) g.L.Reads.may) (sym from)
+    (subst (λ z. ReadsWithin (needs_between frame c.args.from z) g.L.Reads.may) (sym to) c.requires.may))

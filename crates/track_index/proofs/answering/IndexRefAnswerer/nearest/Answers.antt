@@ -1,5 +1,7 @@
-use Rattle.std.proofs.Common.{◌≡◌, ◌≤◌, ◌+◌, w64, to_z, of_z, arith, subst}
+use Rattle.std.proofs.Common.{◌≡◌, ◌≤◌, ◌+◌, w64, to_z, of_z, arith, subst, sym}
 use Rattle.std.proofs.lemmas.Int.{ints}
+use Rattle.step_count.specs.Reads.{ReadsWithin}
+use Rattle.snapshots.specs.Needs.{needs_at}
 use Rattle.track_types.specs.declared.parts.Parts.{Parts}
 use Rattle.nearest_search.specs.Cost.{nearest_cost}
 use Rattle.track_index.specs.Cost.{cost_of}
@@ -14,3 +16,10 @@ returns-clause-cost g c =
     (subst (λ (p : Parts). c.nearest.new.steps
     ≤ c.args.steps.now + nearest_cost p c.args.count (to_z w64 (of_z w64 c.args.instant)) c.args.cell)
     c.stores.ensures.value c.nearest.ensures.cost)
+
+pub nearest-requires-clause-may : goal.nearest-requires-clause-may
+nearest-requires-clause-may g c =
+    let same : to_z w64 (of_z w64 c.args.instant) ≡ c.args.instant = omega (arith, ints) in
+    subst (λ (p : Parts). ReadsWithin (needs_at p.frame (to_z w64 (of_z w64 c.args.instant))) g.L.Reads.may)
+    (sym c.stores.ensures.value)
+    (subst (λ z. ReadsWithin (needs_at c.args.self.index.now.frame z) g.L.Reads.may) (sym same) c.requires.may)

@@ -6,6 +6,7 @@ use Rattle.log_cursor.specs.Seek.{cell_among}
 use Rattle.snapshots.specs.IndexCost.{position_cost, position_cost_in}
 use Rattle.snapshots.specs.Parts.{index_in, period_in, stops_in}
 use Rattle.snapshots.specs.SoundParts.{IsValid}
+use Rattle.snapshots.proofs.NeedsLemmas.{may-found, within-logs}
 use Rattle.track_index.specs.Cost.{cost_of}
 use Rattle.object_track.proofs.ChartLemmas.{cell_at-known, cell_at-outside, cell_at-unknown, index_in-some}
 use Rattle.object_track.proofs.MetLemmas.{period_in-some}
@@ -59,6 +60,14 @@ cell_in-requires-clause-period g c =
     (omega (arith, ints)) c.in_ok-period.ensures.value in
     (period_in-some c.stores-stores.result.now.frame valid.shaped.header c.args.instant c.in_ok-period.period
     (sym when)).0
+
+pub cell_in-requires-clause-may : goal.cell_in-requires-clause-may
+cell_in-requires-clause-may g c =
+    may-found g.L.Reads.may _ c.in_ok-period.period
+    (sym (when g (goal.at.cell_in-requires-clause-may g c).In_ok-period)) c.requires.may
+
+pub cell_in-requires-clause-logs : goal.cell_in-requires-clause-logs
+cell_in-requires-clause-logs g c = within-logs g.L.Reads.may _ c.requires.may
 
 pub returns-clause-value : goal.returns-clause-value
 returns-clause-value g c =

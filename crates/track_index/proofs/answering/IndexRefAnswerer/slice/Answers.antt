@@ -1,5 +1,7 @@
-use Rattle.std.proofs.Common.{◌≡◌, ◌≤◌, ◌+◌, w64, to_z, of_z, arith, subst}
+use Rattle.std.proofs.Common.{◌≡◌, ◌≤◌, ◌+◌, w64, to_z, of_z, arith, subst, sym}
 use Rattle.std.proofs.lemmas.Int.{ints}
+use Rattle.step_count.specs.Reads.{ReadsWithin}
+use Rattle.snapshots.specs.Needs.{needs_at}
 use Rattle.track_types.specs.declared.parts.Parts.{Parts}
 use Rattle.slice_search.specs.Cost.{slice_cost}
 use Rattle.track_index.specs.Cost.{cost_of}
@@ -13,3 +15,10 @@ returns-clause-cost g c =
     (subst (λ (p : Parts). c.slice_of.new.steps
     ≤ c.args.steps.now + slice_cost p (to_z w64 (of_z w64 c.args.instant)) c.args.region.now) c.stores.ensures.value
     c.slice_of.ensures.cost)
+
+pub slice_of-requires-clause-may : goal.slice_of-requires-clause-may
+slice_of-requires-clause-may g c =
+    let same : to_z w64 (of_z w64 c.args.instant) ≡ c.args.instant = omega (arith, ints) in
+    subst (λ (p : Parts). ReadsWithin (needs_at p.frame (to_z w64 (of_z w64 c.args.instant))) g.L.Reads.may)
+    (sym c.stores.ensures.value)
+    (subst (λ z. ReadsWithin (needs_at c.args.self.index.now.frame z) g.L.Reads.may) (sym same) c.requires.may)

@@ -1,12 +1,16 @@
-use Rattle.std.proofs.Common.{◌≡◌, ℤ, ◌≤◌, w64, to_z, of_z, arith, ap, sym, ◌∙◌}
+use Rattle.std.proofs.Common.{◌≡◌, ℤ, ◌≤◌, w64, to_z, of_z, arith, ap, subst, sym, ◌∙◌}
 use Rattle.std.proofs.lemmas.Int.{ints}
 use Rattle.std.proofs.lemmas.Result.{IfOk-weaker}
 use Rattle.track_types.specs.ByFilter.{path_of}
 use Rattle.track_types.specs.declared.parts.Parts.{Parts}
+use Rattle.step_count.specs.Reads.{ReadsWithin}
+use Rattle.snapshots.specs.Needs.{needs_between}
+use Rattle.object_track.specs.Met.{AreMet}
+use Rattle.track_index.proofs.NeedsLemmas.{left-met, left-none}
 use Rattle.snapshots.specs.IndexCost.{path_cost}
 use Rattle.snapshots.specs.Parts.{chart_in, index_in}
 use Rattle.track_index.specs.Cost.{cost_of}
-use Rattle.track_index.specs.Path.{path_reads_to, PathView}
+use Rattle.track_index.specs.Path.{path_needs, path_reads_to, PathView}
 use Rattle.object_track.proofs.ChartLemmas.{index_in-some, path_of-unknown}
 use Rattle.object_track.proofs.BetweenLemmas.{cost_between-none, cost_between-path, stops_between-path, stops_between-none}
 use Rattle.track_index.proofs.PastLemmas.{until-made}
@@ -103,3 +107,26 @@ unfolding cost_of
 returns-clause-in_time c =
     until-made c.args.self.index.now c.args.object c.args.from c.args.to c.new-2.result
     (returns-clause-left c) (returns-clause-budget c) (returns-clause-budget_to c)
+
+pub returns-in_default-clause-needs : goal.returns-in_default-clause-needs
+returns-in_default-clause-needs c =
+    let frame = c.args.self.index.now.frame in
+    IfOk-weaker c.new.result _ (λ (w : PathView). ReadsWithin (path_needs w) (needs_between frame c.args.from c.args.to))
+    (λ walk within read needed. left-none frame c.args.from c.args.to c.none.result.next c.none.result.end
+    c.none.ensures.end read (within read needed)) c.new.ensures.needs
+
+pub returns-clause-needs : goal.returns-clause-needs
+returns-clause-needs c =
+    let parts : Parts = c.args.self.index.now in
+    let next = c.met-periods.result.next in
+    let behind = c.met-periods.result.end in
+    let low : to_z w64 (of_z w64 c.args.from) ≡ c.args.from = omega (arith, ints) in
+    let high : to_z w64 (of_z w64 c.args.to) ≡ c.args.to = omega (arith, ints) in
+    let met : AreMet parts.frame c.args.from c.args.to next behind =
+    subst (λ z. AreMet parts.frame c.args.from z next behind) high
+    (subst (λ z. AreMet parts.frame z (to_z w64 (of_z w64 c.args.to)) next behind) low
+    (subst (λ (p : Parts). AreMet p.frame (to_z w64 (of_z w64 c.args.from)) (to_z w64 (of_z w64 c.args.to)) next behind)
+    c.stores-stores.ensures.value c.met-periods.ensures)) in
+    IfOk-weaker c.new-2.result _ (λ (w : PathView). ReadsWithin (path_needs w) (needs_between parts.frame c.args.from c.args.to))
+    (λ walk within read needed. left-met parts.frame c.args.from c.args.to next behind met read (within read needed))
+    c.new-2.ensures.needs

@@ -1,9 +1,12 @@
 use Rattle.std.proofs.Common.{◌≡◌, [], to_z, of_z, w64, refl, arith, subst, sym, ◌∙◌}
 use Rattle.std.proofs.lemmas.Int.{ints}
 use Rattle.track_types.specs.declared.parts.Parts.{Parts}
+use Rattle.step_count.specs.Reads.{ReadsWithin, ofPeriod}
 use Rattle.rule_store.specs.Log.{log_of}
 use Rattle.snapshots.specs.SoundParts.{IsValid}
-use Rattle.track_index.specs.Path.{IsSeekingIn, PathView}
+use Rattle.track_index.specs.Path.{IsSeekingIn, PathView, left_needs, path_needs}
+use Rattle.snapshots.proofs.NeedsLemmas.{within-logs}
+use Rattle.track_index.proofs.NeedsLemmas.{is_left-next, left-more}
 use Rattle.track_index.proofs.PathLemmas.{drawing-absent, drawing-walk_from}
 use Rattle.track_index.proofs.SeekingLemmas.{drawing-here, seeking-end, seeking-hit, seeking-on, seeking-passed, seeking-walk}
 use Rattle.track_index.proofs.path_walk.PathWalk.draw_in.Given.{Over}
@@ -16,26 +19,29 @@ valid_here stores parts own its same valid = subst IsValid (sym (its ∙ same)) 
 
 pub loop-stop-init : goal.loop-stop-init
 loop-stop-init g c =
-    let walk = c.self.inside in
-    subst (λ (first : PathView). IsSeekingIn c.args.test.now.region first c.args.steps.now c.stores-stores.result.now
-    walk.index.now walk.object walk.from walk.to walk.periods.next walk.periods.end walk.block c.args.steps.now) c.self.view_is
-    (record {
-      its = sym c.stores-stores.ensures.value;
-      walk = c.self.invariant;
-      passed = [];
-      all = refl;
-      outside = refl;
-      reads = omega arith;
-    })
+    let walk = c.self.inside in (
+      subst (λ (first : PathView). IsSeekingIn c.args.test.now.region first c.args.steps.now c.stores-stores.result.now
+          walk.index.now walk.object walk.from walk.to walk.periods.next walk.periods.end walk.block c.args.steps.now) c.self.view_is
+          (record {
+            its = sym c.stores-stores.ensures.value;
+            walk = c.self.invariant;
+            passed = [];
+            all = refl;
+            outside = refl;
+            reads = omega arith;
+          }),
+      subst (λ (first : PathView). ReadsWithin (left_needs walk.periods.next walk.periods.end) (path_needs first))
+          c.self.view_is (λ read needed. needed),
+    )
 
 -- the block that was begun has a hit
 pub invariant_of-self : goal.invariant_of-self
 invariant_of-self g c =
-    seeking-walk c.loop-stop.invariant c.in-Some.ensures.drawn c.in-Some.ensures.rules
+    seeking-walk c.loop-stop.invariant.0 c.in-Some.ensures.drawn c.in-Some.ensures.rules
 
 pub returns-in-Some-clause-drawn : goal.returns-in-Some-clause-drawn
 returns-in-Some-clause-drawn g c =
-    seeking-hit c.loop-stop.invariant c.draw_in.new.self c.in-Some.stop c.in-Some.ensures.drawn
+    seeking-hit c.loop-stop.invariant.0 c.draw_in.new.self c.in-Some.stop c.in-Some.ensures.drawn
 
 -- it has none: all of it was passed
 passed : (g : Over) (c : In_default g) → IsSeekingIn c.args.test.now.region c.args.self.now c.args.steps.now
@@ -43,7 +49,7 @@ passed : (g : Over) (c : In_default g) → IsSeekingIn c.args.test.now.region c.
     c.loop-stop.self-inside.to c.loop-stop.self-inside.periods.next c.loop-stop.self-inside.periods.end
     c.draw_in.new.self c.draw_in.new.steps
 passed g c =
-    seeking-passed c.loop-stop.invariant c.in_default.ensures.drawn c.in_default.ensures.rules c.draw_in.new.steps refl
+    seeking-passed c.loop-stop.invariant.0 c.in_default.ensures.drawn c.in_default.ensures.rules c.draw_in.new.steps refl
     c.in_default.ensures.cost
 
 pub returns-then-self-clause-drawn : goal.returns-then-self-clause-drawn
@@ -57,28 +63,41 @@ loop-stop-preserved-in-Some-find g c =
     let placed = c.new-placed.ensures in
     let seeking = passed g (goal.at.loop-stop-preserved-in-Some-find g c).In_default in
     let low : to_z w64 (of_z w64 walk.from) ≡ walk.from = omega (arith, ints) in
-    let high : to_z w64 (of_z w64 walk.to) ≡ walk.to = omega (arith, ints) in
-    seeking-on seeking (drawing-walk_from walk.index.now (valid_here c.stores-stores.result.now walk.index.now _
-    seeking.its c.stores-stores.ensures.value c.stores-stores.ensures.valid) walk.object walk.from walk.to walk.periods.next
-    walk.periods.end (omega (arith, c.if-self.false)) c.stores-stores.result.now _ c.draw_in.new.self c.draw_in.new.self
-    c.draw_in.new.steps c.draw_in.new.steps c.draw_in.new.steps c.find.new.steps
-    (drawing-here c.stores-stores.result.now walk.index.now walk.object walk.from walk.to walk.periods.next walk.periods.end
-    c.draw_in.new.self c.draw_in.new.steps seeking.its seeking.walk)
-    c.in_default.ensures.drawn.end refl (omega arith)
-    c.find.ensures.cost c.in-Some-find.block c.begin.new.self c.new-placed.result.log.rules.now
-    (log_of c.new-placed.result.log) c.new-placed.result.start (to_z w64 (of_z w64 walk.from))
-    (to_z w64 (of_z w64 walk.to)) c.in-Some-find.ensures.value c.in-Some-find.ensures.block placed.rules placed.log placed.start low high
-    c.begin.ensures.walk)
+    let high : to_z w64 (of_z w64 walk.to) ≡ walk.to = omega (arith, ints) in (
+      seeking-on seeking (drawing-walk_from walk.index.now (valid_here c.stores-stores.result.now walk.index.now _
+          seeking.its c.stores-stores.ensures.value c.stores-stores.ensures.valid) walk.object walk.from walk.to walk.periods.next
+          walk.periods.end (omega (arith, c.if-self.false)) c.stores-stores.result.now _ c.draw_in.new.self c.draw_in.new.self
+          c.draw_in.new.steps c.draw_in.new.steps c.draw_in.new.steps c.find.new.steps
+          (drawing-here c.stores-stores.result.now walk.index.now walk.object walk.from walk.to walk.periods.next walk.periods.end
+          c.draw_in.new.self c.draw_in.new.steps seeking.its seeking.walk)
+          c.in_default.ensures.drawn.end refl (omega arith)
+          c.find.ensures.cost c.in-Some-find.block c.begin.new.self c.new-placed.result.log.rules.now
+          (log_of c.new-placed.result.log) c.new-placed.result.start (to_z w64 (of_z w64 walk.from))
+          (to_z w64 (of_z w64 walk.to)) c.in-Some-find.ensures.value c.in-Some-find.ensures.block placed.rules placed.log placed.start low high
+          c.begin.ensures.walk),
+      λ read needed. c.loop-stop.invariant.1 read (left-more _ _ read needed),
+    )
 
 pub loop-stop-preserved : goal.loop-stop-preserved
 loop-stop-preserved g c =
     let walk = c.loop-stop.self-inside in
-    let seeking = passed g (goal.at.loop-stop-preserved g c).In_default in
-    seeking-on seeking (drawing-absent walk.index.now (valid_here c.stores-stores.result.now walk.index.now _
-    seeking.its c.stores-stores.ensures.value c.stores-stores.ensures.valid) walk.object walk.from walk.to walk.periods.next
-    walk.periods.end (omega (arith, c.if-self.false)) c.stores-stores.result.now _ c.draw_in.new.self c.draw_in.new.self
-    c.draw_in.new.steps c.draw_in.new.steps c.draw_in.new.steps c.find.new.steps
-    (drawing-here c.stores-stores.result.now walk.index.now walk.object walk.from walk.to walk.periods.next walk.periods.end
-    c.draw_in.new.self c.draw_in.new.steps seeking.its seeking.walk)
-    c.in_default.ensures.drawn.end refl (omega arith)
-    c.find.ensures.cost refl c.in_default-find.ensures.value)
+    let seeking = passed g (goal.at.loop-stop-preserved g c).In_default in (
+      seeking-on seeking (drawing-absent walk.index.now (valid_here c.stores-stores.result.now walk.index.now _
+          seeking.its c.stores-stores.ensures.value c.stores-stores.ensures.valid) walk.object walk.from walk.to walk.periods.next
+          walk.periods.end (omega (arith, c.if-self.false)) c.stores-stores.result.now _ c.draw_in.new.self c.draw_in.new.self
+          c.draw_in.new.steps c.draw_in.new.steps c.draw_in.new.steps c.find.new.steps
+          (drawing-here c.stores-stores.result.now walk.index.now walk.object walk.from walk.to walk.periods.next walk.periods.end
+          c.draw_in.new.self c.draw_in.new.steps seeking.its seeking.walk)
+          c.in_default.ensures.drawn.end refl (omega arith)
+          c.find.ensures.cost refl c.in_default-find.ensures.value),
+      λ read needed. c.loop-stop.invariant.1 read (left-more _ _ read needed),
+    )
+
+pub draw_in-requires : goal.draw_in-requires
+draw_in-requires g c = record { may = λ read logs. c.requires.may read (within-logs (path_needs c.args.self.now) _ c.loop-stop.invariant.1 read logs) }
+
+pub find-requires-clause-may : goal.find-requires-clause-may
+find-requires-clause-may g c =
+    let walk = c.loop-stop.self-inside in
+    c.requires.may (ofPeriod walk.periods.next) (c.loop-stop.invariant.1 (ofPeriod walk.periods.next)
+    (is_left-next walk.periods.next walk.periods.end (omega (arith, c.if-self.false))))

@@ -5,6 +5,10 @@ use Rattle.rule_store.specs.Log.{log_of}
 use Rattle.snapshots.specs.SoundParts.{IsValid}
 use Rattle.object_track.specs.Between.{stops_between}
 use Rattle.object_track.proofs.BetweenLemmas.{stops_between-none}
+use Rattle.step_count.specs.Reads.{ofPeriod}
+use Rattle.snapshots.proofs.NeedsLemmas.{within-logs}
+use Rattle.track_index.specs.Path.{path_needs}
+use Rattle.track_index.proofs.NeedsLemmas.{is_left-next, left-more}
 use Rattle.track_index.proofs.PathLemmas.{drawing-absent, drawing-walk_from, drawn-in_time, drawn-walk}
 use Rattle.track_index.proofs.path_walk.PathWalkLazy.draw.Goals as goal
 
@@ -18,20 +22,20 @@ invariant_of-self g c =
     let walk = c.loop-stop.self-inside in
     drawn-walk walk.index.now walk.object walk.from walk.to walk.periods.next walk.periods.end
     c.stores-stores.result.now c.args.self.now walk.block c.draw.new.self c.args.steps.now c.loop-stop.steps
-    c.draw.new.steps c.in-Some.stop c.loop-stop.invariant c.in-Some.ensures.found c.in-Some.ensures.rules
+    c.draw.new.steps c.in-Some.stop c.loop-stop.invariant.0 c.in-Some.ensures.found c.in-Some.ensures.rules
 
 pub returns-in-Some-clause-in_time : goal.returns-in-Some-clause-in_time
 returns-in-Some-clause-in_time g c =
     let walk = c.loop-stop.self-inside in
     drawn-in_time walk.index.now walk.object walk.from walk.to walk.periods.next walk.periods.end
     c.stores-stores.result.now c.args.self.now walk.block c.draw.new.self c.args.steps.now c.loop-stop.steps
-    c.draw.new.steps c.in-Some.stop c.loop-stop.invariant c.in-Some.ensures.found c.in-Some.ensures.cost
+    c.draw.new.steps c.in-Some.stop c.loop-stop.invariant.0 c.in-Some.ensures.found c.in-Some.ensures.cost
     c.in-Some.ensures.in_time
 
 pub returns-then-self-clause-none : goal.returns-then-self-clause-none
 returns-then-self-clause-none g c =
     let walk = c.loop-stop.self-inside in
-    c.loop-stop.invariant.stops
+    c.loop-stop.invariant.0.stops
     ∙ ap (λ stops. stops ++ stops_between walk.index.now walk.object walk.from walk.to walk.periods.next
     walk.periods.end) c.in_default.ensures.none
     ∙ stops_between-none walk.index.now walk.object walk.from walk.to walk.periods.next walk.periods.end
@@ -42,23 +46,36 @@ loop-stop-preserved-in-Some-find g c =
     let walk = c.loop-stop.self-inside in
     let placed = c.new-placed.ensures in
     let low : to_z w64 (of_z w64 walk.from) ≡ walk.from = omega (arith, ints) in
-    let high : to_z w64 (of_z w64 walk.to) ≡ walk.to = omega (arith, ints) in
-    drawing-walk_from walk.index.now (valid_here c.stores-stores.result.now walk.index.now _ c.loop-stop.invariant.its
-    c.stores-stores.ensures.value c.stores-stores.ensures.valid) walk.object walk.from walk.to walk.periods.next walk.periods.end
-    (omega (arith, c.if-self.false)) c.stores-stores.result.now c.args.self.now walk.block c.draw.new.self
-    c.args.steps.now c.loop-stop.steps c.draw.new.steps c.find.new.steps c.loop-stop.invariant
-    c.in_default.ensures.none c.in_default.ensures.rules c.in_default.ensures.cost
-    c.find.ensures.cost c.in-Some-find.block c.begin.new.self c.new-placed.result.log.rules.now
-    (log_of c.new-placed.result.log) c.new-placed.result.start (to_z w64 (of_z w64 walk.from))
-    (to_z w64 (of_z w64 walk.to)) c.in-Some-find.ensures.value c.in-Some-find.ensures.block placed.rules placed.log placed.start low high
-    c.begin.ensures.walk
+    let high : to_z w64 (of_z w64 walk.to) ≡ walk.to = omega (arith, ints) in (
+      drawing-walk_from walk.index.now (valid_here c.stores-stores.result.now walk.index.now _ c.loop-stop.invariant.0.its
+          c.stores-stores.ensures.value c.stores-stores.ensures.valid) walk.object walk.from walk.to walk.periods.next walk.periods.end
+          (omega (arith, c.if-self.false)) c.stores-stores.result.now c.args.self.now walk.block c.draw.new.self
+          c.args.steps.now c.loop-stop.steps c.draw.new.steps c.find.new.steps c.loop-stop.invariant.0
+          c.in_default.ensures.none c.in_default.ensures.rules c.in_default.ensures.cost
+          c.find.ensures.cost c.in-Some-find.block c.begin.new.self c.new-placed.result.log.rules.now
+          (log_of c.new-placed.result.log) c.new-placed.result.start (to_z w64 (of_z w64 walk.from))
+          (to_z w64 (of_z w64 walk.to)) c.in-Some-find.ensures.value c.in-Some-find.ensures.block placed.rules placed.log placed.start low high
+          c.begin.ensures.walk,
+      λ read needed. c.loop-stop.invariant.1 read (left-more _ _ read needed),
+    )
 
 pub loop-stop-preserved : goal.loop-stop-preserved
 loop-stop-preserved g c =
+    let walk = c.loop-stop.self-inside in (
+      drawing-absent walk.index.now (valid_here c.stores-stores.result.now walk.index.now _ c.loop-stop.invariant.0.its
+          c.stores-stores.ensures.value c.stores-stores.ensures.valid) walk.object walk.from walk.to walk.periods.next walk.periods.end
+          (omega (arith, c.if-self.false)) c.stores-stores.result.now c.args.self.now walk.block c.draw.new.self
+          c.args.steps.now c.loop-stop.steps c.draw.new.steps c.find.new.steps c.loop-stop.invariant.0
+          c.in_default.ensures.none c.in_default.ensures.rules c.in_default.ensures.cost
+          c.find.ensures.cost c.in_default.ensures.found c.in_default-find.ensures.value,
+      λ read needed. c.loop-stop.invariant.1 read (left-more _ _ read needed),
+    )
+
+pub draw-requires : goal.draw-requires
+draw-requires g c = record { may = λ read logs. c.requires.may read (within-logs (path_needs c.args.self.now) _ c.loop-stop.invariant.1 read logs) }
+
+pub find-requires-clause-may : goal.find-requires-clause-may
+find-requires-clause-may g c =
     let walk = c.loop-stop.self-inside in
-    drawing-absent walk.index.now (valid_here c.stores-stores.result.now walk.index.now _ c.loop-stop.invariant.its
-    c.stores-stores.ensures.value c.stores-stores.ensures.valid) walk.object walk.from walk.to walk.periods.next walk.periods.end
-    (omega (arith, c.if-self.false)) c.stores-stores.result.now c.args.self.now walk.block c.draw.new.self
-    c.args.steps.now c.loop-stop.steps c.draw.new.steps c.find.new.steps c.loop-stop.invariant
-    c.in_default.ensures.none c.in_default.ensures.rules c.in_default.ensures.cost
-    c.find.ensures.cost c.in_default.ensures.found c.in_default-find.ensures.value
+    c.requires.may (ofPeriod walk.periods.next) (c.loop-stop.invariant.1 (ofPeriod walk.periods.next)
+    (is_left-next walk.periods.next walk.periods.end (omega (arith, c.if-self.false))))

@@ -5,7 +5,7 @@ use Rattle.index_format.specs.Answers.{Gives}
 use Rattle.index_file.specs.File.{parts_in}
 use Rattle.index_file.specs.declared.file.FileParts.{FileParts}
 use Rattle.index_file.proofs.FileLaws.{parts_in-again, given_takes}
-use Rattle.index_file.proofs.file.decode_bounded.Goals as goal
+use Rattle.index_file.proofs.file.decode_found.Goals as goal
 
 abbrev parts_in_file : FileParts → Parts
 parts_in_file read = read.parts
