@@ -5,6 +5,7 @@
 #![tactic(auto)]
 
 ghost use Rattle.std.specs.Prelude.{◌≡◌, ◌≢◌, ◌<◌, ℕ, List, Some, None};
+ghost use Rattle.step_count.specs.Reads.{AllMay};
 ghost use Rattle.host_ports.specs.Faults.{Rose};
 ghost use Rattle.gract_cli.specs.About.{about_of};
 ghost use Rattle.gract_cli.specs.Devices.{Runs, SaysText, TellsText, devices};
@@ -22,8 +23,8 @@ use std::io::{self, Read, Write};
 use std::marker::Brand;
 use std::process::ExitCode;
 use std::rt::Files;
-use std::sync::ledger::{Blank, Ledger};
-use step_count::Steps;
+use std::sync::ledger::Blank;
+use step_count::{Reads, Steps};
 
 fn main(rt: HostRuntime) -> ExitCode {
     take_standard_streams(&rt);
@@ -79,7 +80,7 @@ fn say_text<K: Sink>(text: &str, sink: &mut K) -> Outcome
 }
 
 // Runs the program on its words; nothing asks how many reads were counted.
-fn run_words<L: Ledger, D: Files, R: Read, W: Write>(
+fn run_words<L: Reads, D: Files, R: Read, W: Write>(
     rt: &HostRuntime,
     words: &[&str],
     files: &mut DiskFiles<'_, D>,
@@ -90,6 +91,7 @@ fn run_words<L: Ledger, D: Files, R: Read, W: Write>(
     requires name { blank.name ≡ L.name }
     requires parts { blank.parts ≡ L.parts }
     requires some { 0 < L.parts }
+    requires may { AllMay L.may }
     ensures { Runs words.now result (devices files.old source.old sink.old) (devices files.new source.new sink.new) }
 {
     let mut steps = Steps::<L>::new(rt, blank);

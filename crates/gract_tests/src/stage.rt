@@ -1,12 +1,13 @@
 ghost use Rattle.std.specs.Prelude.{◌≡◌, ◌<◌};
+ghost use Rattle.step_count.specs.Reads.{AllMay};
 
 use gract_top::{Outcome, gract};
 use host_ports::{Files, MemFiles, MemSink, MemSource, Sink, Source};
 use std::alloc::{AllocError, Global};
 use std::marker::Brand;
 use std::mem::replace;
-use std::sync::ledger::{Blank, Ledger};
-use step_count::Steps;
+use std::sync::ledger::Blank;
+use step_count::{Reads, Steps};
 use track_types::{MAX_INDEX, Memory};
 
 /// Rows of one object.
@@ -178,7 +179,7 @@ impl Stage {
         self.call::<Brand>(rt, &words, Blank::new(1))
     }
 
-    fn call<L: Ledger>(
+    fn call<L: Reads>(
         &mut self,
         rt: &HostRuntime,
         words: &Vec<String>,
@@ -187,6 +188,7 @@ impl Stage {
         requires name { blank.name ≡ L.name }
         requires parts { blank.parts ≡ L.parts }
         requires some { 0 < L.parts }
+        requires may { AllMay L.may }
     {
         let mut slices = Vec::new(rt.alloc());
         for word in words {

@@ -1,4 +1,5 @@
 ghost use Rattle.std.specs.Prelude.{◌≡◌, ℕ, ◌+◌, ◌≤◌, false, length};
+ghost use Rattle.step_count.specs.Reads.{AllMay};
 ghost use Rattle.track_types.specs.declared.limit.TheConstants.{MAX_INDEX};
 ghost use Rattle.question_shell.specs.Session.{meaning_by};
 ghost use Rattle.track_index.specs.Opening.{IsFile};
@@ -14,20 +15,20 @@ use encounter::IndexMeets;
 use host_ports::{Sink, Source};
 use question_shell::{Desk, ShellFault, run};
 use std::alloc::Global;
-use std::sync::ledger::Ledger;
-use step_count::Steps;
+use step_count::{Reads, Steps};
 use track_index::open_bytes;
 use track_types::Meets;
 
 // Opens the bytes of an index file, and answers the source's lines from the index.
-pub(crate) fn answer_bytes<S: Source, K: Sink, L: Ledger>(
+pub(crate) fn answer_bytes<S: Source, K: Sink, L: Reads>(
     alloc: Global,
     bytes: Vec<u8>,
     source: &mut S,
     sink: &mut K,
     steps: &mut Steps<L>,
 ) -> Result<(), AskFault>
-    requires { length bytes.items ≤ MAX_INDEX }
+    requires known { length bytes.items ≤ MAX_INDEX }
+    requires may { AllMay L.may }
     ensures late { is_early (ended ask_outcome result) ≡ false }
     ensures ended { EndsOpened (ended ask_outcome result) bytes.items ((source.new ≡ source.old) × (sink.new ≡ sink.old))
         (talk_of S.Source K.Sink source.old sink.old steps.old)
@@ -43,13 +44,14 @@ pub(crate) fn answer_bytes<S: Source, K: Sink, L: Ledger>(
 }
 
 // Answers the source's lines from an empty desk, over whatever answers questions.
-pub(crate) fn answer_with<A: Meets, S: Source, K: Sink, L: Ledger>(
+pub(crate) fn answer_with<A: Meets, S: Source, K: Sink, L: Reads>(
     alloc: Global,
     answerer: A,
     source: &mut S,
     sink: &mut K,
     steps: &mut Steps<L>,
 ) -> Result<(), ShellFault>
+    requires may { AllMay L.may }
     ensures answers { AnswersSource (ended shell_outcome result) ((source.new ≡ source.old) × (sink.new ≡ sink.old))
         (meaning_by A.Answerer answerer)
         (talk_of S.Source K.Sink source.old sink.old steps.old)

@@ -1,4 +1,5 @@
 ghost use Rattle.std.specs.Prelude.{◌≡◌};
+ghost use Rattle.step_count.specs.Reads.{AllMay};
 ghost use Rattle.gract_top.specs.Counting.{CountsTalk};
 ghost use Rattle.gract_top.specs.Ends.{EndsAsk, EndsOnce, moment_of};
 ghost use Rattle.gract_top.specs.Faults.{ask_outcome, ended};
@@ -11,12 +12,11 @@ use crate::index_opening::load_index;
 use crate::request::Settings;
 use host_ports::{Files, Sink, Source};
 use std::alloc::Global;
-use std::sync::ledger::Ledger;
-use step_count::Steps;
+use step_count::{Reads, Steps};
 
 // Answers the source's lines from the index of the CSV file of that name. What is opened is what the
 // files give for the bytes of that index.
-pub(crate) fn once<F: Files, S: Source, K: Sink, L: Ledger>(
+pub(crate) fn once<F: Files, S: Source, K: Sink, L: Reads>(
     alloc: Global,
     csv: &str,
     settings: Settings,
@@ -25,7 +25,8 @@ pub(crate) fn once<F: Files, S: Source, K: Sink, L: Ledger>(
     sink: &mut K,
     steps: &mut Steps<L>,
 ) -> Result<(), AskFault>
-    requires { AreSettings settings }
+    requires known { AreSettings settings }
+    requires may { AllMay L.may }
     ensures ends { EndsOnce (ended ask_outcome result) csv.now settings
         ((source.new ≡ source.old) × (sink.new ≡ sink.old))
         (moment_of F.Files S.Source K.Sink files.old source.old sink.old steps.old)
@@ -38,7 +39,7 @@ pub(crate) fn once<F: Files, S: Source, K: Sink, L: Ledger>(
 }
 
 // Answers the source's lines from the index file of that name.
-pub(crate) fn ask<F: Files, S: Source, K: Sink, L: Ledger>(
+pub(crate) fn ask<F: Files, S: Source, K: Sink, L: Reads>(
     alloc: Global,
     index: &str,
     files: &mut F,
@@ -46,6 +47,7 @@ pub(crate) fn ask<F: Files, S: Source, K: Sink, L: Ledger>(
     sink: &mut K,
     steps: &mut Steps<L>,
 ) -> Result<(), AskFault>
+    requires may { AllMay L.may }
     ensures ends { EndsAsk (ended ask_outcome result) index.now
         ((source.new ≡ source.old) × (sink.new ≡ sink.old))
         (moment_of F.Files S.Source K.Sink files.old source.old sink.old steps.old)

@@ -1,4 +1,5 @@
 ghost use Rattle.std.specs.Prelude.{◌≡◌, ℕ, ◌↔◌, ◌⊎◌};
+ghost use Rattle.step_count.specs.Reads.{AllMay};
 ghost use Rattle.host_ports.specs.Meanings.{files_at};
 ghost use Rattle.gract_top.specs.Completeness.{IsCalm, IsReady};
 ghost use Rattle.gract_top.specs.Counting.{CountsFiles, CountsTalk};
@@ -16,8 +17,7 @@ use crate::tail_asking::ask_tail;
 use crate::upgrading::upgrade;
 use host_ports::{Files, Sink, Source};
 use std::alloc::Global;
-use std::sync::ledger::Ledger;
-use step_count::Steps;
+use step_count::{Reads, Steps};
 
 /// Does what the command words ask, and answers how it ended.
 ///
@@ -41,7 +41,7 @@ use step_count::Steps;
 ///
 /// Each outcome comes for its cause alone, which its clause states. `Memory` may come to any words
 /// that have a form, before the first question is listened to or at a line that takes memory.
-pub fn gract<F: Files, S: Source, K: Sink, L: Ledger>(
+pub fn gract<F: Files, S: Source, K: Sink, L: Reads>(
     alloc: Global,
     words: &[&str],
     files: &mut F,
@@ -49,6 +49,7 @@ pub fn gract<F: Files, S: Source, K: Sink, L: Ledger>(
     sink: &mut K,
     steps: &mut Steps<L>,
 ) -> Outcome
+    requires may { AllMay L.may }
     // The words have no form if and only if the outcome says so, with the first bad one's place.
     ensures words { (place : ℕ) →
         (result ≡ Outcome.Words place) ↔ (request_of words.now ≡ Request.Refused place) }

@@ -1,4 +1,5 @@
 ghost use Rattle.std.specs.Prelude.{◌≡◌, ◌+◌, ◌≤◌, ◌<◌, ◌⊎◌, None, IfOk, IfErr, IfSome, OnOk};
+ghost use Rattle.step_count.specs.Reads.{AllMay};
 ghost use Rattle.host_ports.specs.Meanings.{files_at};
 ghost use Rattle.index_merge.specs.Extension.{extension_cost, extension_fault, IsAsBuilt};
 ghost use Rattle.path_union.specs.Union.{rows_of_tail};
@@ -16,15 +17,14 @@ use crate::tail_opening::{load_tail, settings_of};
 use host_ports::Files;
 use index_merge::extended;
 use std::alloc::Global;
-use std::sync::ledger::Ledger;
-use step_count::Steps;
+use step_count::{Reads, Steps};
 use track_index::Index;
 use track_types::Chart;
 
 // Saves what the index file of one name holds and the rows of the CSV file of another as one index under a third name.
 // Where both have a row of an object and an instant, the CSV file's counts. The CSV file is begun once the index is
 // open.
-pub(crate) fn extend<F: Files, L: Ledger>(
+pub(crate) fn extend<F: Files, L: Reads>(
     alloc: Global,
     index: &str,
     tail: &str,
@@ -32,6 +32,7 @@ pub(crate) fn extend<F: Files, L: Ledger>(
     files: &mut F,
     steps: &mut Steps<L>,
 ) -> Result<(), SaveFault>
+    requires may { AllMay L.may }
     ensures ends { EndsExtend (ended save_outcome result) index.now tail.now out.now
         (progress (files_at F.Files files.old) steps.old)
         (progress (files_at F.Files files.new) steps.new) }
@@ -43,7 +44,7 @@ pub(crate) fn extend<F: Files, L: Ledger>(
 }
 
 // Saves the index of what an index holds and its tail under a name.
-fn save_extension<F: Files, L: Ledger>(
+fn save_extension<F: Files, L: Reads>(
     alloc: Global,
     index: Index,
     tail: Option<Chart>,
@@ -51,6 +52,7 @@ fn save_extension<F: Files, L: Ledger>(
     files: &mut F,
     steps: &mut Steps<L>,
 ) -> Result<(), SaveFault>
+    requires may { AllMay L.may }
     ensures ended { (NotExtended (ended save_outcome result) index tail × SavesNothing
         (files_at F.Files files.old) (files_at F.Files files.new))
         ⊎ SavesExtension (ended save_outcome result) index tail out.now
@@ -65,12 +67,13 @@ fn save_extension<F: Files, L: Ledger>(
 }
 
 // The bytes of the index file of what an index holds and its tail. The index is let go once there is a chart.
-fn index_of_extension<L: Ledger>(
+fn index_of_extension<L: Reads>(
     alloc: Global,
     index: Index,
     tail: Option<Chart>,
     steps: &mut Steps<L>,
 ) -> Result<Vec<u8>, ChartFault>
+    requires may { AllMay L.may }
     ensures ok { IfOk result (λ bytes. bytes.items ≡ extension_bytes index tail) }
     ensures exact { OnOk result (extension_fault index (rows_of_tail tail) ≡ None) }
     ensures fault { IfErr result (λ fault. NotExtended (chart_outcome fault) index tail) }

@@ -1,4 +1,5 @@
 ghost use Rattle.std.specs.Prelude.{◌≡◌, IfOk, IfErr};
+ghost use Rattle.step_count.specs.Reads.{AllMay};
 ghost use Rattle.host_ports.specs.Meanings.{files_at};
 ghost use Rattle.gract_top.specs.Beginning.{OpensFile, StopsAtIndex, progress};
 ghost use Rattle.gract_top.specs.Counting.{CountsFiles};
@@ -9,19 +10,19 @@ use crate::fault::IndexFault;
 use crate::loading::load;
 use host_ports::Files;
 use std::alloc::Global;
-use std::sync::ledger::Ledger;
-use step_count::Steps;
+use step_count::{Reads, Steps};
 use track_index::{Index, open_bytes};
 use track_types::LimitKind;
 
 // The index of the index file of that name. It begins that file and no other. The file's bytes are let go once they are
 // read.
-pub(crate) fn open_file<F: Files, L: Ledger>(
+pub(crate) fn open_file<F: Files, L: Reads>(
     alloc: Global,
     name: &str,
     files: &mut F,
     steps: &mut Steps<L>,
 ) -> Result<Index, IndexFault>
+    requires may { AllMay L.may }
     ensures ok { IfOk result (λ index. OpensFile name.now index
         (progress (files_at F.Files files.old) steps.old)
         (progress (files_at F.Files files.new) steps.new)) }

@@ -1,4 +1,5 @@
 ghost use Rattle.std.specs.Prelude.{◌≡◌, ◌+◌, ◌≤◌, ◌<◌, ◌⊎◌, None, IfOk, IfErr, OnOk};
+ghost use Rattle.step_count.specs.Reads.{AllMay};
 ghost use Rattle.host_ports.specs.Meanings.{files_at};
 ghost use Rattle.index_merge.specs.Cost.{union_cost};
 ghost use Rattle.index_merge.specs.Extension.{IsAsBuilt};
@@ -17,12 +18,11 @@ use crate::index_opening::open_file;
 use host_ports::Files;
 use index_merge::{MergeFault, union};
 use std::alloc::Global;
-use std::sync::ledger::Ledger;
-use step_count::Steps;
+use step_count::{Reads, Steps};
 use track_index::Index;
 
 // Saves the union of the index files of two names under a third. The second file is begun where the first one was opened.
-pub(crate) fn merge<F: Files, L: Ledger>(
+pub(crate) fn merge<F: Files, L: Reads>(
     alloc: Global,
     left: &str,
     right: &str,
@@ -30,6 +30,7 @@ pub(crate) fn merge<F: Files, L: Ledger>(
     files: &mut F,
     steps: &mut Steps<L>,
 ) -> Result<(), SaveFault>
+    requires may { AllMay L.may }
     ensures ends { EndsMerge (ended save_outcome result) left.now right.now out.now
         (progress (files_at F.Files files.old) steps.old)
         (progress (files_at F.Files files.new) steps.new) }
@@ -41,7 +42,7 @@ pub(crate) fn merge<F: Files, L: Ledger>(
 }
 
 // Saves the index of the union of what two indexes hold under a name.
-fn save_union<F: Files, L: Ledger>(
+fn save_union<F: Files, L: Reads>(
     alloc: Global,
     left: Index,
     right: Index,
@@ -49,6 +50,7 @@ fn save_union<F: Files, L: Ledger>(
     files: &mut F,
     steps: &mut Steps<L>,
 ) -> Result<(), SaveFault>
+    requires may { AllMay L.may }
     ensures ended { (NotMerged (ended save_outcome result) left right × SavesNothing
         (files_at F.Files files.old) (files_at F.Files files.new))
         ⊎ SavesUnion (ended save_outcome result) left right out.now
@@ -63,12 +65,13 @@ fn save_union<F: Files, L: Ledger>(
 }
 
 // The bytes of the index file of the union of what two indexes hold, which are let go once there is a chart.
-fn index_of_union<L: Ledger>(
+fn index_of_union<L: Reads>(
     alloc: Global,
     left: Index,
     right: Index,
     steps: &mut Steps<L>,
 ) -> Result<Vec<u8>, MergeFault>
+    requires may { AllMay L.may }
     ensures ok { IfOk result (λ bytes. bytes.items ≡ union_bytes left right) }
     ensures exact { OnOk result (merge_fault left right ≡ None) }
     ensures fault { IfErr result (IsMergeFaultFor (merge_fault left right)) }

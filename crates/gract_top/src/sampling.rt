@@ -1,4 +1,5 @@
 ghost use Rattle.std.specs.Prelude.{◌≡◌, ℕ, ◌<◌, ◌≤◌, ◌⊎◌, None, IfOk, IfErr, OnOk, length};
+ghost use Rattle.step_count.specs.Reads.{AllMay};
 ghost use Rattle.chart_parts.specs.PartsOf.{parts_of};
 ghost use Rattle.track_types.specs.declared.limit.TheConstants.{MAX_INDEX};
 ghost use Rattle.host_ports.specs.Counting.{SinkCounts};
@@ -21,20 +22,20 @@ use gridding::grid;
 use host_ports::{Files, Sink};
 use sample_rows::sample_rows;
 use std::alloc::Global;
-use std::sync::ledger::Ledger;
-use step_count::Steps;
+use step_count::{Reads, Steps};
 use track_index::open_bytes;
 use track_types::{LimitKind, MAX_ROWS};
 
 // Says the summary of a sample. What is opened is what the files give for the bytes of its index.
-pub(crate) fn sample<F: Files, K: Sink, L: Ledger>(
+pub(crate) fn sample<F: Files, K: Sink, L: Reads>(
     alloc: Global,
     settings: SampleSettings,
     files: &mut F,
     sink: &mut K,
     steps: &mut Steps<L>,
 ) -> Result<(), AskFault>
-    requires { AreSampleSettings settings }
+    requires known { AreSampleSettings settings }
+    requires may { AllMay L.may }
     ensures ends { EndsSample (ended ask_outcome result) settings (sink.new ≡ sink.old)
         (files_at F.Files files.old) (files_at F.Files files.new)
         (F.given files.old) (speech (K.said sink.old) steps.old)
@@ -68,7 +69,7 @@ fn sample_bytes(alloc: Global, settings: SampleSettings) -> Result<Vec<u8>, Char
 }
 
 // Opens the bytes of an index file, and says the summary of the index.
-fn sum_bytes<K: Sink, L: Ledger>(
+fn sum_bytes<K: Sink, L: Reads>(
     alloc: Global,
     bytes: Vec<u8>,
     instants: u32,
@@ -77,6 +78,7 @@ fn sum_bytes<K: Sink, L: Ledger>(
 ) -> Result<(), AskFault>
     requires short { length bytes.items ≤ MAX_INDEX }
     requires instants { 1 ≤ instants }
+    requires may { AllMay L.may }
     ensures ended { EndsSummed (ended ask_outcome result) bytes.items instants (sink.new ≡ sink.old)
         (speech (K.said sink.old) steps.old) (speech (K.said sink.new) steps.new) }
     ensures decides { (parts : Parts) → IsFile bytes.items parts →

@@ -1,4 +1,5 @@
 ghost use Rattle.std.specs.Prelude.{true, is_err, ◌≡◌, ◌+◌, ◌≤◌, All, Err, OnOk, OnErr};
+ghost use Rattle.step_count.specs.Reads.{AllMay};
 ghost use Rattle.host_ports.specs.Histories.{Gains};
 ghost use Rattle.std.specs.List.{sum_by};
 ghost use Rattle.host_ports.specs.Counting.{SinkCounts};
@@ -14,20 +15,20 @@ use host_ports::{Cut, Sink};
 use itoa::Buffer;
 use question_shell::{Desk, TurnFault, count_found, say_reply};
 use std::alloc::Global;
-use std::sync::ledger::Ledger;
-use step_count::Steps;
+use step_count::{Reads, Steps};
 use track_types::{Meets, Question};
 
 // Says the summary of a sample of so many instants: all of the reply to `info`, and of the other
 // replies the last lines.
-pub(crate) fn say_summary<A: Meets, K: Sink, L: Ledger>(
+pub(crate) fn say_summary<A: Meets, K: Sink, L: Reads>(
     alloc: Global,
     answerer: A,
     instants: u32,
     sink: &mut K,
     steps: &mut Steps<L>,
 ) -> Result<(), TurnFault>
-    requires { 1 ≤ instants }
+    requires known { 1 ≤ instants }
+    requires may { AllMay L.may }
     ensures ok { OnOk result (Gains (K.said sink.old) (K.said sink.new)
         (summary_of (A.chart answerer) (A.facts answerer) instants)) }
     ensures err { OnErr result (SaysFront (K.said sink.old) (K.said sink.new)
@@ -44,7 +45,7 @@ pub(crate) fn say_summary<A: Meets, K: Sink, L: Ledger>(
 }
 
 // Says the last line of the reply to each question.
-fn say_counts<A: Meets, K: Sink, L: Ledger>(
+fn say_counts<A: Meets, K: Sink, L: Reads>(
     alloc: Global,
     answerer: A,
     questions: &[Question],
@@ -54,6 +55,7 @@ fn say_counts<A: Meets, K: Sink, L: Ledger>(
 ) -> Result<(), TurnFault>
     requires counted { All IsSlotless questions.now }
     requires empty { held_of desk.old ≡ held_of empty_desk }
+    requires may { AllMay L.may }
     ensures ok { OnOk result (Gains (K.said sink.old) (K.said sink.new)
         (counts_of (A.chart answerer) (A.facts answerer) questions.now)) }
     ensures err { OnErr result (SaysFront (K.said sink.old) (K.said sink.new)

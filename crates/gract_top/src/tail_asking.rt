@@ -1,4 +1,5 @@
 ghost use Rattle.std.specs.Prelude.{◌≡◌, ◌+◌, ◌≤◌, IfSome};
+ghost use Rattle.step_count.specs.Reads.{AllMay};
 ghost use Rattle.host_ports.specs.Meanings.{files_at};
 ghost use Rattle.live_tail.specs.Join.{IsAsBuiltTogether};
 ghost use Rattle.live_tail.specs.View.{IsOfFrame};
@@ -20,14 +21,13 @@ use host_ports::{Files, Sink, Source};
 use live_tail::Tailed;
 use question_shell::ShellFault;
 use std::alloc::Global;
-use std::sync::ledger::Ledger;
-use step_count::Steps;
+use step_count::{Reads, Steps};
 use track_index::Index;
 use track_types::{Answerer, Chart};
 
 // Answers the source's lines from the index file of one name with the rows of the CSV file of another, which is begun
 // once the index is open.
-pub(crate) fn ask_tail<F: Files, S: Source, K: Sink, L: Ledger>(
+pub(crate) fn ask_tail<F: Files, S: Source, K: Sink, L: Reads>(
     alloc: Global,
     index: &str,
     tail: &str,
@@ -36,6 +36,7 @@ pub(crate) fn ask_tail<F: Files, S: Source, K: Sink, L: Ledger>(
     sink: &mut K,
     steps: &mut Steps<L>,
 ) -> Result<(), AskFault>
+    requires may { AllMay L.may }
     ensures ends { EndsAskTail (ended ask_outcome result) index.now tail.now
         ((source.new ≡ source.old) × (sink.new ≡ sink.old))
         (files_at F.Files files.old) (files_at F.Files files.new)
@@ -50,7 +51,7 @@ pub(crate) fn ask_tail<F: Files, S: Source, K: Sink, L: Ledger>(
 }
 
 // Answers the source's lines from an index with its tail.
-fn ask_opened<S: Source, K: Sink, L: Ledger>(
+fn ask_opened<S: Source, K: Sink, L: Reads>(
     alloc: Global,
     index: &Index,
     tail: Option<Chart>,
@@ -58,7 +59,8 @@ fn ask_opened<S: Source, K: Sink, L: Ledger>(
     sink: &mut K,
     steps: &mut Steps<L>,
 ) -> Result<(), ShellFault>
-    requires { IfSome tail (IsOfFrame index.now.frame) }
+    requires known { IfSome tail (IsOfFrame index.now.frame) }
+    requires may { AllMay L.may }
     ensures together { IsAsBuiltTogether (chart_in index.now) tail }
     ensures answers { AnswersSource (ended shell_outcome result) ((source.new ≡ source.old) × (sink.new ≡ sink.old))
         (tailed_meaning index.now tail)
@@ -73,13 +75,14 @@ fn ask_opened<S: Source, K: Sink, L: Ledger>(
 }
 
 // Answers the source's lines over whatever answers questions, and a meeting by two of its paths.
-fn answer_walked<A: Answerer, S: Source, K: Sink, L: Ledger>(
+fn answer_walked<A: Answerer, S: Source, K: Sink, L: Reads>(
     alloc: Global,
     answerer: A,
     source: &mut S,
     sink: &mut K,
     steps: &mut Steps<L>,
 ) -> Result<(), ShellFault>
+    requires may { AllMay L.may }
     ensures answers { AnswersSource (ended shell_outcome result) ((source.new ≡ source.old) × (sink.new ≡ sink.old))
         (meaning_of (A.chart answerer) (A.facts answerer) (walked_cost (A.cost answerer)))
         (talk_of S.Source K.Sink source.old sink.old steps.old)

@@ -1,4 +1,5 @@
 ghost use Rattle.std.specs.Prelude.{◌≡◌, ◌+◌, ◌*◌, ◌≤◌, ◌⊎◌, length, IfOk, IfErr};
+ghost use Rattle.step_count.specs.Reads.{AllMay};
 ghost use Rattle.host_ports.specs.Meanings.{files_at};
 ghost use Rattle.index_file.specs.File.{IsNewest};
 ghost use Rattle.track_index.specs.Opening.{bytes_cost, first_flaw, IsFile};
@@ -21,19 +22,19 @@ use host_ports::Files;
 use index_file::{decode, encode};
 use index_format::FormatFault;
 use std::alloc::Global;
-use std::sync::ledger::Ledger;
-use step_count::Steps;
+use step_count::{Reads, Steps};
 use track_index::upgraded;
 use track_types::Parts;
 
 // Saves the index file of one name in the newest version of the format, under another.
-pub(crate) fn upgrade<F: Files, L: Ledger>(
+pub(crate) fn upgrade<F: Files, L: Reads>(
     alloc: Global,
     old: &str,
     new: &str,
     files: &mut F,
     steps: &mut Steps<L>,
 ) -> Result<(), SaveFault>
+    requires may { AllMay L.may }
     ensures ends { EndsUpgrade (ended save_outcome result) old.now new.now
         (files_at F.Files files.old) (files_at F.Files files.new) steps.old steps.new }
     ensures given { F.given files.new ≡ F.given files.old }
@@ -43,14 +44,15 @@ pub(crate) fn upgrade<F: Files, L: Ledger>(
 }
 
 // Saves the upgrade of an index file's bytes under a name.
-fn save_upgraded<F: Files, L: Ledger>(
+fn save_upgraded<F: Files, L: Reads>(
     alloc: Global,
     bytes: Vec<u8>,
     new: &str,
     files: &mut F,
     steps: &mut Steps<L>,
 ) -> Result<(), SaveFault>
-    requires { length bytes.items ≤ MAX_INDEX }
+    requires known { length bytes.items ≤ MAX_INDEX }
+    requires may { AllMay L.may }
     ensures ended { (NotUpgraded (ended save_outcome result) bytes.items × SavesNothing
         (files_at F.Files files.old) (files_at F.Files files.new))
         ⊎ SavesUpgrade (ended save_outcome result) bytes.items new.now
@@ -64,12 +66,13 @@ fn save_upgraded<F: Files, L: Ledger>(
 }
 
 // The bytes of the upgrade of an index file.
-fn upgraded_bytes<L: Ledger>(
+fn upgraded_bytes<L: Reads>(
     alloc: Global,
     bytes: Vec<u8>,
     steps: &mut Steps<L>,
 ) -> Result<Vec<u8>, IndexFault>
-    requires { length bytes.items ≤ MAX_INDEX }
+    requires known { length bytes.items ≤ MAX_INDEX }
+    requires may { AllMay L.may }
     ensures ok { IfOk result (λ newest. IsUpgrade bytes.items newest.items) }
     ensures short { IfOk result (λ newest. length newest.items ≤ limit_of limit.Index) }
     ensures err { IfErr result (λ fault. NotUpgraded (index_outcome fault) bytes.items) }
@@ -80,12 +83,13 @@ fn upgraded_bytes<L: Ledger>(
 }
 
 // The parts of the upgrade of an index file, whose bytes are let go once they are read.
-fn upgraded_parts<L: Ledger>(
+fn upgraded_parts<L: Reads>(
     alloc: Global,
     bytes: Vec<u8>,
     steps: &mut Steps<L>,
 ) -> Result<Parts, FormatFault>
-    requires { length bytes.items ≤ MAX_INDEX }
+    requires known { length bytes.items ≤ MAX_INDEX }
+    requires may { AllMay L.may }
     ensures ok { IfOk result (λ newest.
         (parts : WholeParts) × IsFile bytes.items parts × (newest ≡ newest_of parts)) }
     ensures newest { IfOk result IsNewest }

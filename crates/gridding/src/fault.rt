@@ -2,8 +2,6 @@ ghost use Rattle.std.specs.Prelude.{◌≡◌};
 ghost use Rattle.gridding.specs.declared.fault.GridFault.TheVariants.{Memory};
 
 use std::alloc::AllocError;
-use std::error::Error;
-use std::fmt::{self, Display, Formatter, Write};
 use track_types::LimitKind;
 
 /// Why rows have no chart.
@@ -28,17 +26,3 @@ impl From<AllocError> for GridFault {
         GridFault::Memory
     }
 }
-
-impl Display for GridFault {
-    fn fmt<W: Write>(&self, f: &mut Formatter<W>) -> fmt::Result {
-        match *self {
-            GridFault::Empty => f.write_str("no rows"),
-            GridFault::Limit { kind, value } => {
-                write!(f, "limit {} passed at {value}", kind.name())
-            }
-            GridFault::Memory => f.write_str("out of memory"),
-        }
-    }
-}
-
-impl Error for GridFault {}

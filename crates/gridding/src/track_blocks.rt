@@ -225,8 +225,8 @@ fn write(places: &mut [PackedPlace; ROWS], length: u8, place: PackedPlace)
 }
 
 // So many places of a block, from the first on.
-fn filled_part(places: &[PackedPlace; ROWS], length: u8) -> &[PackedPlace]
-    ensures { result.now ≡ take length places.now }
+fn filled_part(places: &[PackedPlace], filled: u8) -> &[PackedPlace]
+    ensures { result.now ≡ take filled places.now }
 {
-    &places[..(length as usize).min(ROWS)]
+    &places[..(filled as usize).min(places.len())]
 }

@@ -1,5 +1,5 @@
 -- The replies to the lines of a slot are its own.
-use Rattle.std.proofs.Common.{◌≡◌, ℕ, ◌==◌, ◌≤◌, true, false, List, [], ◌∷◌, length, set, refl, sym, ◌∙◌}
+use Rattle.std.proofs.Common.{◌≡◌, ℕ, ◌==◌, true, false, List, [], ◌∷◌, length, set, refl, sym, ◌∙◌}
 use Rattle.std.proofs.Common.{Option, Some, None, Result, Ok, Err, inl, inr, arith}
 use mathlib.Core.Bool.{false≢true}
 use Rattle.std.proofs.lemmas.Bool.{cases_Bool, cases_lt, eqb-false, eqb-true}
@@ -7,12 +7,11 @@ use Rattle.std.proofs.lemmas.List.{get_or-set_other, get_or-set_same, get_or_pas
 use Rattle.track_types.specs.Chart.{ChartView}
 use Rattle.track_types.specs.declared.facts.Facts.{Facts}
 use Rattle.track_types.specs.declared.question.Question.{Question}
-use Rattle.track_types.specs.declared.question.Question.TheVariants as question
 use Rattle.track_types.specs.declared.stop.Stop.{Stop}
 use Rattle.question_shell.specs.Grammar.{question_of}
 use Rattle.question_shell.specs.Items.{items_in, slot_items, stops_at}
 use Rattle.question_shell.specs.Replies.{turn_of}
-use Rattle.question_shell.specs.Reply.{Turn, asked_turn, listed, own_cost, slot_desk, slot_refusal}
+use Rattle.question_shell.specs.Reply.{Turn, asked_turn, listed, slot_desk, slot_refusal}
 use Rattle.question_shell.specs.Session.{AreIndependent, Meaning}
 use Rattle.question_shell.specs.SlotParts.{OfNoSlot, SlotPart, ToDraw, ToEmpty, ToHold, slot_part}
 use Rattle.question_shell.specs.Slots.{asks_slot, is_of_slot, lines_of_slot, replies_to_each, replies_to_slot}
@@ -121,8 +120,3 @@ pub slots-independent : (meaning : Meaning) (desk : List (Option (List Stop))) (
     AreIndependent meaning desk lines
 slots-independent meaning desk lines slot =
     replies-alike meaning.chart meaning.facts slot desk desk lines (record { as_many = refl; same = refl })
-
--- a question of no slot costs no more than it may
-pub own_cost-within : (cost : Question → ℕ) (asked : Question) → own_cost cost asked ≤ cost asked
-own_cost-within cost question.Info = omega arith
-own_cost-within cost other = omega arith

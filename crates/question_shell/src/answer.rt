@@ -1,4 +1,5 @@
 ghost use Rattle.std.specs.Prelude.{◌≡◌, ◌<◌, ◌++◌, [], IfNone, drop, option_to_list, take};
+ghost use Rattle.step_count.specs.Reads.{AllMay};
 ghost use Rattle.question_shell.specs.Desk.{Draws, slot_stops};
 ghost use Rattle.question_shell.specs.Drawing.{GivesItems, IsDrawn, IsOfDesk, refusal_left};
 ghost use Rattle.question_shell.specs.Reply.{last_line};
@@ -9,8 +10,7 @@ use crate::item::Item;
 use crate::named_fact::NamedFacts;
 use crate::reply::{free_line, held_line, ok_line};
 use crate::reply_line::ReplyLine;
-use std::sync::ledger::Ledger;
-use step_count::Steps;
+use step_count::{Reads, Steps};
 use track_types::{Hit, Lazy, Near, Sighting, Stop};
 
 /// An answer to a question. Its items are drawn one after another.
@@ -41,12 +41,13 @@ pub enum Answer<W> {
 impl<W: Lazy<Item = Stop> + Drop> Answer<W> {
     // Takes the first item off. What is read is taken from the budget of its walk.
     #[inline(always)]
-    pub(crate) fn draw<L: Ledger>(
+    pub(crate) fn draw<L: Reads>(
         &mut self,
         desk: &mut Desk<W>,
         steps: &mut Steps<L>,
     ) -> Option<Item>
-        requires { IsOfDesk self.old }
+        requires slot { IsOfDesk self.old }
+        requires may { AllMay L.may }
         ensures gives { GivesItems W.left W.budget self.old self.new desk.old desk.new steps.old steps.new
             (option_to_list result) }
         ensures none { IfNone result (IsDrawn W.left W.budget self.new desk.new) }
@@ -76,13 +77,14 @@ impl<W: Lazy<Item = Stop> + Drop> Answer<W> {
 }
 
 // Takes the first stop off the walk in a slot, while fewer than so many were drawn.
-fn draw_more<W: Lazy<Item = Stop> + Drop, L: Ledger>(
+fn draw_more<W: Lazy<Item = Stop> + Drop, L: Reads>(
     desk: &mut Desk<W>,
     slot: u8,
     count: &mut u32,
     steps: &mut Steps<L>,
 ) -> Option<Stop>
-    requires { slot < 16 }
+    requires slot { slot < 16 }
+    requires may { AllMay L.may }
     ensures found { take count.old (slot_stops desk.old slot)
         ≡ option_to_list result ++ take count.new (slot_stops desk.new slot) }
     ensures left { drop count.new (slot_stops desk.new slot)

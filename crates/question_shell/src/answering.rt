@@ -1,4 +1,5 @@
 ghost use Rattle.std.specs.Prelude.{◌≡◌, ◌≢◌, ◌≤◌, [], Some, Ok, Err};
+ghost use Rattle.step_count.specs.Reads.{AllMay};
 ghost use Rattle.host_ports.specs.Faults.{Rose};
 ghost use Rattle.host_ports.specs.Counting.{SinkCounts};
 ghost use Rattle.question_shell.specs.Grammar.{AreAsked};
@@ -13,8 +14,7 @@ use crate::saying::say_answer;
 use crate::turn_fault::TurnFault;
 use host_ports::Sink;
 use std::alloc::Global;
-use std::sync::ledger::Ledger;
-use step_count::Steps;
+use step_count::{Reads, Steps};
 use track_types::{Meets, Question};
 
 /// Says the reply to a question, as `run` does for its line.
@@ -22,7 +22,7 @@ use track_types::{Meets, Question};
 /// `Say` comes only where the sink failed, and then a front of the reply was said. At `Memory`
 /// nothing was said, and the desk is as it was. The count of faults is as it was, unless the answer
 /// is `Say`.
-pub fn say_reply<A: Meets, K: Sink, L: Ledger>(
+pub fn say_reply<A: Meets, K: Sink, L: Reads>(
     alloc: Global,
     answerer: A,
     question: Question,
@@ -30,7 +30,8 @@ pub fn say_reply<A: Meets, K: Sink, L: Ledger>(
     sink: &mut K,
     steps: &mut Steps<L>,
 ) -> Result<(), TurnFault>
-    requires { AreAsked question }
+    requires asked { AreAsked question }
+    requires may { AllMay L.may }
     ensures told { AnswerTold (meaning_by A.Answerer answerer)
         (moment (K.said sink.old) [] desk.old steps.old)
         (moment (K.said sink.new) [] desk.new steps.new) (Ok (Some question)) result }
@@ -40,14 +41,11 @@ pub fn say_reply<A: Meets, K: Sink, L: Ledger>(
 {
     let mut text = HeldText::new();
     answer_question(alloc, answerer, &question, desk, &mut text, sink, steps)?;
-    let Ok(()) = text.say(sink) else {
-        return Err(TurnFault::Say);
-    };
-    Ok(())
+    Ok(text.say(sink)?)
 }
 
 // Answers a question. Walks and lists take memory, and are made before anything is said.
-pub(crate) fn answer_question<A: Meets, K: Sink, L: Ledger>(
+pub(crate) fn answer_question<A: Meets, K: Sink, L: Reads>(
     alloc: Global,
     answerer: A,
     question: &Question,
@@ -56,17 +54,13 @@ pub(crate) fn answer_question<A: Meets, K: Sink, L: Ledger>(
     sink: &mut K,
     steps: &mut Steps<L>,
 ) -> Result<(), TurnFault>
-    requires { AreAsked question.now }
+    requires asked { AreAsked question.now }
+    requires may { AllMay L.may }
     ensures told { AnswerTold (meaning_by A.Answerer answerer)
         (moment (K.said sink.old) text.old desk.old steps.old)
         (moment (K.said sink.new) text.new desk.new steps.new) (Ok (Some question.now)) result }
     ensures faults { SinkCounts K.Sink sink.old sink.new (result ≡ Err fault.Say) }
 {
-    let Ok(mut answer) = ask(alloc, answerer, question, desk, steps) else {
-        return Err(TurnFault::Memory);
-    };
-    let Ok(()) = say_answer(&mut answer, desk, text, sink, steps) else {
-        return Err(TurnFault::Say);
-    };
-    Ok(())
+    let mut answer = ask(alloc, answerer, question, desk, steps)?;
+    Ok(say_answer(&mut answer, desk, text, sink, steps)?)
 }

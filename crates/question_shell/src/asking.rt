@@ -1,4 +1,5 @@
 ghost use Rattle.std.specs.Prelude.{◌≡◌, ℕ, ◌+◌, ◌<◌, ◌≤◌, IfOk, OnErr, Ok, Some, true};
+ghost use Rattle.step_count.specs.Reads.{AllMay};
 ghost use Rattle.std.specs.Prelude.{map, option_to_list};
 ghost use Rattle.track_types.specs.declared.question.Question.TheVariants as question;
 ghost use Rattle.question_shell.specs.Desk.{DeskView, held_of};
@@ -15,20 +16,20 @@ use crate::found::Found;
 use crate::item::Item;
 use crate::named_fact::NamedFacts;
 use std::alloc::Global;
-use std::sync::ledger::Ledger;
-use step_count::Steps;
+use step_count::{Reads, Steps};
 use track_types::{Cell, Lazy, Meeting, Meets, Memory, Question, Stop};
 
 // Asks a question. Walks and lists take memory, and are made before anything changes.
 #[inline(always)]
-pub(crate) fn ask<A: Meets, L: Ledger>(
+pub(crate) fn ask<A: Meets, L: Reads>(
     alloc: Global,
     answerer: A,
     question: &Question,
     desk: &mut Desk<A::Walk>,
     steps: &mut Steps<L>,
 ) -> Result<Answer<A::Walk>, Memory>
-    requires { AreAsked question.now }
+    requires asked { AreAsked question.now }
+    requires may { AllMay L.may }
     ensures ok { IfOk result (λ answer. IsAnswer A.Walk.left A.Walk.budget
         (meaning_by A.Answerer answerer)
         question.now desk.old steps.old answer desk.new steps.new) }
@@ -52,7 +53,7 @@ pub(crate) fn ask<A: Meets, L: Ledger>(
 
 // Asks a question that is about no slot, whatever the desk holds.
 #[inline(always)]
-fn ask_chart<A: Meets, L: Ledger>(
+fn ask_chart<A: Meets, L: Reads>(
     alloc: Global,
     answerer: A,
     question: &Question,
@@ -60,6 +61,7 @@ fn ask_chart<A: Meets, L: Ledger>(
 ) -> Result<Answer<A::Walk>, Memory>
     requires asked { AreAsked question.now }
     requires part { slot_part question.now ≡ OfNoSlot }
+    requires may { AllMay L.may }
     ensures ok { (desk : DeskView) → IfOk result (λ answer. IsAnswer A.Walk.left A.Walk.budget
         (meaning_by A.Answerer answerer)
         question.now desk steps.old answer desk steps.new) }

@@ -1,6 +1,3 @@
-use std::error::Error;
-use std::fmt::{self, Display, Formatter, Write};
-
 /// What is wrong with a question line: the first cause. Its length is judged first, then its first
 /// word, how a region's words are laid out, the number of words, and the number words from the left.
 #[derive(Clone, Copy, Debug, PartialEq, Eq)]
@@ -16,20 +13,3 @@ pub enum Bad {
     /// The word at this place is a numeral out of its range.
     Range(u32),
 }
-
-impl Display for Bad {
-    fn fmt<W: Write>(&self, f: &mut Formatter<W>) -> fmt::Result {
-        match self {
-            Bad::Long => write!(f, "the line is too long"),
-            Bad::Word => write!(
-                f,
-                "the first word names no question, or a region's no shape"
-            ),
-            Bad::Count => write!(f, "the question has another number of words"),
-            Bad::Number(place) => write!(f, "word {place} is no whole number"),
-            Bad::Range(place) => write!(f, "word {place} is out of its range"),
-        }
-    }
-}
-
-impl Error for Bad {}

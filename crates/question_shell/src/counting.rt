@@ -1,4 +1,5 @@
 ghost use Rattle.std.specs.Prelude.{◌≡◌, ◌+◌, ◌<◌, ◌^◌, ◌≤◌, IfOk, OnOk, OnErr, Ok, Some, length};
+ghost use Rattle.step_count.specs.Reads.{AllMay};
 ghost use Rattle.question_shell.specs.Desk.{budget_of, held_of};
 ghost use Rattle.question_shell.specs.Drawing.{IsOfDesk, desk_left, items_left, reads_left};
 ghost use Rattle.question_shell.specs.Grammar.{AreAsked};
@@ -9,21 +10,21 @@ use crate::answer::Answer;
 use crate::asking::ask;
 use crate::desk::Desk;
 use std::alloc::Global;
-use std::sync::ledger::Ledger;
-use step_count::Steps;
+use step_count::{Reads, Steps};
 use track_types::{Lazy, Meets, Memory, Question, Stop};
 
 /// How many items a question finds. They are drawn as for its reply, but not said.
 ///
 /// Where memory is refused, the desk is as it was.
-pub fn count_found<A: Meets, L: Ledger>(
+pub fn count_found<A: Meets, L: Reads>(
     alloc: Global,
     answerer: A,
     question: Question,
     desk: &mut Desk<A::Walk>,
     steps: &mut Steps<L>,
 ) -> Result<u64, Memory>
-    requires { AreAsked question }
+    requires asked { AreAsked question }
+    requires may { AllMay L.may }
     ensures ok { IfOk result (λ count. count
         ≡ length (items_of (A.chart answerer) (A.facts answerer) (held_of desk.old) question)) }
     ensures desk { OnOk result (
@@ -37,13 +38,14 @@ pub fn count_found<A: Meets, L: Ledger>(
 }
 
 // How many items are left of an answer.
-fn count_left<W: Lazy<Item = Stop> + Drop, L: Ledger>(
+fn count_left<W: Lazy<Item = Stop> + Drop, L: Reads>(
     answer: &mut Answer<W>,
     desk: &mut Desk<W>,
     steps: &mut Steps<L>,
 ) -> u64
     requires slot { IsOfDesk answer.old }
     requires few { length (items_left W.left W.budget answer.old desk.old) < 2 ^ 64 }
+    requires may { AllMay L.may }
     ensures count { result ≡ length (items_left W.left W.budget answer.old desk.old) }
     ensures desk { held_of desk.new ≡ desk_left W.left W.budget answer.old desk.old }
     ensures reads { steps.new + budget_of desk.new

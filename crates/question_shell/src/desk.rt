@@ -1,12 +1,12 @@
 ghost use Rattle.std.specs.Prelude.{◌≡◌, ◌+◌, ◌++◌, ◌<◌, ◌≤◌, [], IfNone, IfOk, None, Some, length};
+ghost use Rattle.step_count.specs.Reads.{AllMay};
 ghost use Rattle.std.specs.Prelude.{option_map, option_to_list, slice_set};
 ghost use Rattle.question_shell.specs.Desk.{budget_in, empty_desk, is_held_in, slot_walk};
 ghost use Rattle.question_shell.specs.Desk.{slot_stops};
 
 use std::alloc::Global;
 use std::marker::Model;
-use std::sync::ledger::Ledger;
-use step_count::Steps;
+use step_count::{Reads, Steps};
 use track_types::{Lazy, Memory, Stop};
 
 /// How many walks a desk can hold.
@@ -61,8 +61,9 @@ impl<W: Lazy<Item = Stop> + Drop> Desk<W> {
     /// Takes the first stop off the walk in the place of this slot and answers it, or `None` exactly
     /// where the place is empty or its walk has no stop left. A walk that has ended stays held. What is
     /// read is taken from the budget of that walk, and the other places stay.
-    pub fn draw<L: Ledger>(&mut self, slot: u8, steps: &mut Steps<L>) -> Option<Stop>
-        requires { slot < 16 }
+    pub fn draw<L: Reads>(&mut self, slot: u8, steps: &mut Steps<L>) -> Option<Stop>
+        requires slot { slot < 16 }
+        requires may { AllMay L.may }
         ensures found { slot_stops self.old slot ≡ option_to_list result ++ slot_stops self.new slot }
         ensures none { IfNone result (slot_stops self.old slot ≡ []) }
         ensures cost { steps.new + budget_in self.new slot

@@ -1,4 +1,5 @@
 ghost use Rattle.std.specs.Prelude.{◌≡◌, ◌≢◌, ℕ, ◌≤◌, [], List, Err, OnOk, ◌⊎◌};
+ghost use Rattle.step_count.specs.Reads.{AllMay};
 ghost use Rattle.host_ports.specs.Faults.{Rose};
 ghost use Rattle.host_ports.specs.Counting.{SinkCounts};
 ghost use Rattle.question_shell.specs.Grammar.{question_of};
@@ -20,8 +21,7 @@ use crate::saying::answer_line;
 use crate::turn_fault::TurnFault;
 use host_ports::Sink;
 use std::alloc::Global;
-use std::sync::ledger::Ledger;
-use step_count::Steps;
+use step_count::{Reads, Steps};
 use track_types::{Meets, Question};
 
 /// The line that is coming, what the last one asked, and the text of replies that is held back.
@@ -47,7 +47,7 @@ impl Talk {
 }
 
 // Answers one more piece of question input, and says all that was held back.
-pub(crate) fn take_piece<A: Meets, K: Sink, L: Ledger>(
+pub(crate) fn take_piece<A: Meets, K: Sink, L: Reads>(
     alloc: Global,
     answerer: A,
     talk: &mut Talk,
@@ -56,6 +56,7 @@ pub(crate) fn take_piece<A: Meets, K: Sink, L: Ledger>(
     sink: &mut K,
     steps: &mut Steps<L>,
 ) -> Result<(), TurnFault>
+    requires may { AllMay L.may }
     ensures told { AnswersBytes (meaning_by A.Answerer answerer)
         (moment (K.said sink.old) talk.old.text desk.old steps.old) talk.old.line piece.now
         (moment (K.said sink.new) [] desk.new steps.new) talk.new.line result }
@@ -67,7 +68,7 @@ pub(crate) fn take_piece<A: Meets, K: Sink, L: Ledger>(
 }
 
 // Answers more bytes of question input, line by line.
-fn take_bytes<A: Meets, K: Sink, L: Ledger>(
+fn take_bytes<A: Meets, K: Sink, L: Reads>(
     alloc: Global,
     answerer: A,
     talk: &mut Talk,
@@ -76,6 +77,7 @@ fn take_bytes<A: Meets, K: Sink, L: Ledger>(
     sink: &mut K,
     steps: &mut Steps<L>,
 ) -> Result<(), TurnFault>
+    requires may { AllMay L.may }
     ensures told { AnswersBytes (meaning_by A.Answerer answerer)
         (moment (K.said sink.old) talk.old.text desk.old steps.old) talk.old.line bytes.now
         (moment (K.said sink.new) talk.new.text desk.new steps.new) talk.new.line result }
@@ -93,7 +95,7 @@ fn take_bytes<A: Meets, K: Sink, L: Ledger>(
 
 // Answers the line that has come, and begins another.
 #[inline(always)]
-fn take_line<A: Meets, K: Sink, L: Ledger>(
+fn take_line<A: Meets, K: Sink, L: Reads>(
     alloc: Global,
     answerer: A,
     talk: &mut Talk,
@@ -101,6 +103,7 @@ fn take_line<A: Meets, K: Sink, L: Ledger>(
     sink: &mut K,
     steps: &mut Steps<L>,
 ) -> Result<(), TurnFault>
+    requires may { AllMay L.may }
     ensures told { (line : List ℕ) → talk.old.line ≡ kept_of line →
         AnswerTold (meaning_by A.Answerer answerer)
         (moment (K.said sink.old) talk.old.text desk.old steps.old)
@@ -119,7 +122,7 @@ fn take_line<A: Meets, K: Sink, L: Ledger>(
 }
 
 // Answers a last line that no line feed ends, and says all that was held back.
-pub(crate) fn take_end<A: Meets, K: Sink, L: Ledger>(
+pub(crate) fn take_end<A: Meets, K: Sink, L: Reads>(
     alloc: Global,
     answerer: A,
     talk: &mut Talk,
@@ -127,6 +130,7 @@ pub(crate) fn take_end<A: Meets, K: Sink, L: Ledger>(
     sink: &mut K,
     steps: &mut Steps<L>,
 ) -> Result<(), TurnFault>
+    requires may { AllMay L.may }
     ensures told { (start : Moment) (came : List ℕ) →
         let meaning = meaning_by A.Answerer answerer in
         let now = moment (K.said sink.new) [] desk.new steps.new in
@@ -155,18 +159,8 @@ fn say_rest<K: Sink>(
     ensures faults { K.faults sink.old ≤ K.faults sink.new }
 {
     match answered {
-        Err(TurnFault::Say) => Err(TurnFault::Say),
-        Ok(()) => {
-            let Ok(()) = text.say(sink) else {
-                return Err(TurnFault::Say);
-            };
-            Ok(())
-        }
-        Err(TurnFault::Memory) => {
-            let Ok(()) = text.say(sink) else {
-                return Err(TurnFault::Say);
-            };
-            Err(TurnFault::Memory)
-        }
+        Err(TurnFault::Say) => {}
+        Ok(()) | Err(TurnFault::Memory) => text.say(sink)?,
     }
+    answered
 }

@@ -1,4 +1,5 @@
 ghost use Rattle.std.specs.Prelude.{true, is_err, ◌≡◌, ◌+◌, ◌<◌, ◌^◌, ◌≤◌, Err, None, OnOk, length, map};
+ghost use Rattle.step_count.specs.Reads.{AllMay};
 ghost use Rattle.host_ports.specs.Counting.{SinkCounts};
 ghost use Rattle.question_shell.specs.Desk.{budget_of, held_of};
 ghost use Rattle.question_shell.specs.Drawing.{IsOfDesk, desk_left, items_left, reads_left, refusal_left};
@@ -16,8 +17,7 @@ use crate::reply::ok_line;
 use crate::reply_line::ReplyLine;
 use crate::turn_fault::TurnFault;
 use host_ports::{Cut, Sink};
-use std::sync::ledger::Ledger;
-use step_count::Steps;
+use step_count::{Reads, Steps};
 use track_types::{Lazy, Stop};
 
 // Answers by one line.
@@ -30,14 +30,11 @@ pub(crate) fn answer_line<K: Sink>(
         (voice (K.said sink.new) text.new) line.now result }
     ensures faults { SinkCounts K.Sink sink.old sink.new (result ≡ Err fault.Say) }
 {
-    let Ok(()) = text.put(line, sink) else {
-        return Err(TurnFault::Say);
-    };
-    Ok(())
+    Ok(text.put(line, sink)?)
 }
 
 // Says an answer: a line for each item, as it is drawn, and then the last line.
-pub(crate) fn say_answer<W: Lazy<Item = Stop> + Drop, K: Sink, L: Ledger>(
+pub(crate) fn say_answer<W: Lazy<Item = Stop> + Drop, K: Sink, L: Reads>(
     answer: &mut Answer<W>,
     desk: &mut Desk<W>,
     text: &mut HeldText,
@@ -46,6 +43,7 @@ pub(crate) fn say_answer<W: Lazy<Item = Stop> + Drop, K: Sink, L: Ledger>(
 ) -> Result<(), Cut>
     requires slot { IsOfDesk answer.old }
     requires few { length (items_left W.left W.budget answer.old desk.old) < 2 ^ 64 }
+    requires may { AllMay L.may }
     ensures told { Puts (voice (K.said sink.old) text.old) (voice (K.said sink.new) text.new)
         (listed (items_left W.left W.budget answer.old desk.old) (refusal_left answer.old)) result }
     ensures desk { OnOk result (
@@ -61,13 +59,14 @@ pub(crate) fn say_answer<W: Lazy<Item = Stop> + Drop, K: Sink, L: Ledger>(
 }
 
 // Says the stops of a walk. A path can have many, so its loop tells no kinds of items apart.
-fn say_stops<W: Lazy<Item = Stop> + Drop, K: Sink, L: Ledger>(
+fn say_stops<W: Lazy<Item = Stop> + Drop, K: Sink, L: Reads>(
     walk: &mut W,
     text: &mut HeldText,
     sink: &mut K,
     steps: &mut Steps<L>,
 ) -> Result<(), Cut>
     requires few { length (W.left walk.old) < 2 ^ 64 }
+    requires may { AllMay L.may }
     ensures told { Puts (voice (K.said sink.old) text.old) (voice (K.said sink.new) text.new)
         (listed (map item.Stop (W.left walk.old)) None) result }
     ensures reads { steps.new + W.budget walk.new ≤ steps.old + W.budget walk.old }
@@ -82,7 +81,7 @@ fn say_stops<W: Lazy<Item = Stop> + Drop, K: Sink, L: Ledger>(
 }
 
 // Says the items of any answer.
-fn say_items<W: Lazy<Item = Stop> + Drop, K: Sink, L: Ledger>(
+fn say_items<W: Lazy<Item = Stop> + Drop, K: Sink, L: Reads>(
     answer: &mut Answer<W>,
     desk: &mut Desk<W>,
     text: &mut HeldText,
@@ -91,6 +90,7 @@ fn say_items<W: Lazy<Item = Stop> + Drop, K: Sink, L: Ledger>(
 ) -> Result<(), Cut>
     requires slot { IsOfDesk answer.old }
     requires few { length (items_left W.left W.budget answer.old desk.old) < 2 ^ 64 }
+    requires may { AllMay L.may }
     ensures told { Puts (voice (K.said sink.old) text.old) (voice (K.said sink.new) text.new)
         (listed (items_left W.left W.budget answer.old desk.old) (refusal_left answer.old)) result }
     ensures desk { OnOk result (

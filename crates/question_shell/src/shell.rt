@@ -1,4 +1,5 @@
 ghost use Rattle.question_shell.specs.RunEnds.{AnswersRun, CountsRun};
+ghost use Rattle.step_count.specs.Reads.{AllMay};
 ghost use Rattle.question_shell.specs.Session.{meaning_by, run_by};
 
 use crate::desk::Desk;
@@ -6,8 +7,7 @@ use crate::listening::{Talk, take_end, take_piece};
 use crate::shell_fault::ShellFault;
 use host_ports::{Sink, Source};
 use std::alloc::Global;
-use std::sync::ledger::Ledger;
-use step_count::Steps;
+use step_count::{Reads, Steps};
 use track_types::{MAX_QUESTIONS, Meets};
 
 /// How many bytes question input may have.
@@ -28,7 +28,7 @@ const PIECE: usize = 4096;
 /// among the first 2^32 were answered. After `Memory` exactly the lines before one of these six were
 /// answered. The count of faults of a device that the answer does not name is what it was, so that
 /// devices without a fault have `Ok`, `Limit` or `Memory`.
-pub fn run<A: Meets, S: Source, K: Sink, L: Ledger>(
+pub fn run<A: Meets, S: Source, K: Sink, L: Reads>(
     alloc: Global,
     answerer: A,
     desk: &mut Desk<A::Walk>,
@@ -36,6 +36,7 @@ pub fn run<A: Meets, S: Source, K: Sink, L: Ledger>(
     sink: &mut K,
     steps: &mut Steps<L>,
 ) -> Result<(), ShellFault>
+    requires may { AllMay L.may }
     ensures answers { AnswersRun (meaning_by A.Answerer answerer) result
         (run_by S.Source K.Sink source.old sink.old desk.old steps.old)
         (run_by S.Source K.Sink source.new sink.new desk.new steps.new) }
@@ -46,9 +47,7 @@ pub fn run<A: Meets, S: Source, K: Sink, L: Ledger>(
     let mut taken = 0;
     'pieces: while taken <= LONGEST_INPUT {
         let room = PIECE.min(LONGEST_INPUT + 1 - taken);
-        let Ok(count) = source.listen(&mut buffer[..room]) else {
-            return Err(ShellFault::Listen);
-        };
+        let count = source.listen(&mut buffer[..room])?;
         if count == 0 {
             return Ok(take_end(alloc, answerer, &mut talk, desk, sink, steps)?);
         }

@@ -2,8 +2,6 @@ ghost use Rattle.std.specs.Prelude.{◌≡◌};
 ghost use Rattle.row_reader.specs.declared.fault.RowsFault.TheVariants.{Memory};
 
 use std::alloc::AllocFailed;
-use std::error::Error;
-use std::fmt::{self, Display, Formatter, Write};
 use track_types::RowFault;
 
 /// Why a file gave no rows.
@@ -45,22 +43,3 @@ impl<T: Drop> From<AllocFailed<T>> for RowsFault {
         RowsFault::Memory
     }
 }
-
-impl Display for RowsFault {
-    fn fmt<W: Write>(&self, f: &mut Formatter<W>) -> fmt::Result {
-        match *self {
-            RowsFault::Row {
-                nth,
-                field,
-                fault: RowFault::Count,
-            } => write!(f, "record {nth} has {field} fields"),
-            RowsFault::Row { nth, field, fault } => {
-                write!(f, "record {nth} field {field} is {fault}")
-            }
-            RowsFault::Limit { value } => write!(f, "limit rows passed at {value}"),
-            RowsFault::Memory => f.write_str("out of memory"),
-        }
-    }
-}
-
-impl Error for RowsFault {}

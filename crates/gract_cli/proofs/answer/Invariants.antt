@@ -1,4 +1,4 @@
 use Rattle.gract_cli.proofs.answer.Given as goal
 
-abbrev pub ghosts-run_words : goal.ghosts-run_words
-ghosts-run_words g a = record { name = a.blank.name; parts = a.blank.parts }
+abbrev pub ghosts-run_words-L-Ledger : goal.ghosts-run_words-L-Ledger
+ghosts-run_words-L-Ledger g a = record { name = a.blank.name; parts = a.blank.parts }

@@ -20,13 +20,15 @@ returns-in_err-answer_question-clause-told g c =
     said.new.desk c.args.steps.now said.new.steps (Ok (Some c.args.question)) refused
     (subst Told c.new-text.ensures c.in_err-answer_question.ensures.told))
 
-pub returns-in_default-clause-told : goal.returns-in_default-clause-told
-returns-in_default-clause-told g c =
+pub returns-in_err-say-clause-told : goal.returns-in_err-say-clause-told
+returns-in_err-say-clause-told g c =
+    let gave = err_from_is_err_and c.from_residual-in_err-say.result c.from_residual-in_err-say.ensures.1 in
     let said = c.answer_question in
     let meaning = meaning_by g.A.Answerer c.args.answerer in
-    alone-cut meaning (g.K.Sink.said c.args.sink.now) (g.K.Sink.said said.new.sink) said.new.text c.args.desk.now
+    rw (gave.1, gave.2)
+    (alone-cut meaning (g.K.Sink.said c.args.sink.now) (g.K.Sink.said said.new.sink) said.new.text c.args.desk.now
     said.new.desk c.args.steps.now said.new.steps (Ok (Some c.args.question)) (g.K.Sink.said c.say.new.sink)
-    (rw c.new-text.ensures at c.in_ok-answer_question.ensures.told) c.in_default.ensures.told
+    (rw c.new-text.ensures at c.in_ok-answer_question.ensures.told) c.in_err-say.ensures.told)
 
 pub returns-clause-told : goal.returns-clause-told
 returns-clause-told g c =
@@ -34,4 +36,4 @@ returns-clause-told g c =
     let meaning = meaning_by g.A.Answerer c.args.answerer in
     alone-said meaning (g.K.Sink.said c.args.sink.now) (g.K.Sink.said said.new.sink) said.new.text c.args.desk.now
     said.new.desk c.args.steps.now said.new.steps (Ok (Some c.args.question)) (g.K.Sink.said c.say.new.sink)
-    (rw c.new-text.ensures at c.in_ok-answer_question.ensures.told) c.in-Ok.ensures.told
+    (rw c.new-text.ensures at c.in_ok-answer_question.ensures.told) c.in_ok-say.ensures.told

@@ -9,7 +9,7 @@ pub returns-in-Hold-clause-ok : goal.returns-in-Hold-clause-ok
 returns-in-Hold-clause-ok g c =
     let arm = c.in-Hold in
     let asked : c.args.question.now ≡ question.Hold arm.slot arm.object arm.from arm.to = arm.is in
-    let near : (arm.slot < 16) × IsAsked arm.from × IsAsked arm.to = rw asked at c.requires in
+    let near : (arm.slot < 16) × IsAsked arm.from × IsAsked arm.to = rw asked at c.requires.asked in
     let held = c.hold.ensures.ok c.args.steps.now in
     rw asked (rw (asked_kept arm.from near.1, asked_kept arm.to near.2) at held)
 

@@ -6,7 +6,7 @@ use Rattle.question_shell.proofs.answer.Answer.draw.Goals as goal
 pub returns-in_err-draw_more-in-More-clause-gives : goal.returns-in_err-draw_more-in-More-clause-gives
 returns-in_err-draw_more-in-More-clause-gives g c =
     let arm = c.in-More in
-    let below : arm.slot < 16 = rw arm.is at c.requires in
+    let below : arm.slot < 16 = rw arm.is at c.requires.slot in
     let drawn = c.in_err-draw_more-in-More.ensures in
     rw (arm.is, c.from_residual-in_err-draw_more-in-More.ensures)
     (gives-drawn g.W.Lazy.left g.W.Lazy.budget c.args.desk.now c.draw_more.new.desk arm.slot arm.count
@@ -23,7 +23,7 @@ returns-in_err-draw_more-in-More-clause-none g c =
 pub returns-in_ok-draw_more-in-More-clause-gives : goal.returns-in_ok-draw_more-in-More-clause-gives
 returns-in_ok-draw_more-in-More-clause-gives g c =
     let arm = c.in-More in
-    let below : arm.slot < 16 = rw arm.is at c.requires in
+    let below : arm.slot < 16 = rw arm.is at c.requires.slot in
     let drawn = c.in_ok-draw_more-in-More.ensures in
     rw arm.is
     (gives-drawn g.W.Lazy.left g.W.Lazy.budget c.args.desk.now c.draw_more.new.desk arm.slot arm.count

@@ -17,7 +17,7 @@ drawn g c =
     let places = c.self.inside.places.items in
     let desk = c.args.self.now in
     let slot = c.args.slot in
-    let below : slot < length places = omega (arith, c.requires, c.self.invariant) in
+    let below : slot < length places = omega (arith, c.requires.slot, c.self.invariant) in
     record {
       below = shown-below (λ walk. (g.W.Lazy.left walk, g.W.Lazy.budget walk)) places desk slot c.self.view_is below;
       before = shown-place (λ walk. (g.W.Lazy.left walk, g.W.Lazy.budget walk)) places desk slot c.self.view_is
