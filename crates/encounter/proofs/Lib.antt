@@ -4,5 +4,6 @@ pub mod EarliestLemmas
 pub mod CountLemmas
 pub mod TurnLemmas
 pub mod SideLemmas
+mod NeedsLemmas
 pub mod SeekingLemmas
 mod Examples

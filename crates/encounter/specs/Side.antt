@@ -19,7 +19,7 @@ use Rattle.log_cursor.specs.declared.start.Start.{Start}
 use Rattle.encounter.specs.Span.{Span, BlockTree, span_along, span_at, node_span, spans_in}
 
 -- The next node of a block: its span, where it leads, whether it is a rule, its own stops and rule nodes, and what
--- comes after it. Then how many symbols of the log are still to be read, and a measure of what remains, which each turn
+-- comes after it. Then where the symbols of the log stand, how many of them are still to be read, and a measure of what remains, which each turn
 -- makes less.
 pub record SideView : Type 0 where
   pub top : Span
@@ -27,6 +27,7 @@ pub record SideView : Type 0 where
   pub opens : Bool
   pub own : BlockTree
   pub later : BlockTree
+  pub places : ℕ × ℕ
   pub unread : ℕ
   pub size : ℕ
 
@@ -60,6 +61,7 @@ side_of pending at None = record {
   opens = false;
   own = record { stops = stop_at at.instant at.cell ∷ []; rules = [] };
   later = tree_after pending.rules at pending.symbols;
+  places = pending.places;
   unread = pending.unread;
   size = 2 * length (spans_in pending.rules at pending.symbols) + (length pending.symbols + 1);
 }
@@ -71,6 +73,7 @@ side_of pending at (Some entry) = let values = values_of pending.rules entry.sym
       opens = nat_le (length pending.rules.alphabet) entry.symbol;
       own = symbol_tree pending.rules at entry.symbol;
       later = tree_after pending.rules past pending.symbols;
+      places = pending.places;
       unread = pending.unread;
       size = 2 * length (spans_in pending.rules at (entry.symbol ∷ pending.symbols))
           + (length pending.symbols + 1);

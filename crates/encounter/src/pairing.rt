@@ -1,7 +1,8 @@
 ghost use Rattle.std.specs.Prelude.{◌≡◌, ◌+◌, ◌≤◌, option_map, true, false};
-ghost use Rattle.step_count.specs.Reads.{is_of_log, ReadsWithin};
+ghost use Rattle.step_count.specs.Reads.{ReadsWithin};
 ghost use Rattle.track_types.specs.Meeting.{meeting_at};
 ghost use Rattle.track_types.specs.declared.limit.TheConstants.{MAX_REACH};
+ghost use Rattle.rule_store.specs.Needs.{log_needs};
 ghost use Rattle.encounter.specs.Turn.{IsTurned, meeting_ahead, sides, reads_ahead};
 
 use crate::block_node::BlockNode;
@@ -27,7 +28,8 @@ pub fn first_meeting<L: Reads>(
     steps: &mut Steps<L>,
 ) -> Option<Meeting>
     requires reach { window.now.reach ≤ MAX_REACH }
-    requires may { ReadsWithin is_of_log L.may }
+    requires may { ReadsWithin (log_needs left.old.places) L.may }
+    requires also { ReadsWithin (log_needs right.old.places) L.may }
     ensures value { result ≡ option_map meeting_at (meeting_ahead
         window.now.from window.now.to window.now.reach left.old right.old) }
     ensures cost { steps.new ≤ steps.old + reads_ahead
@@ -51,9 +53,12 @@ fn take_turn<L: Reads>(
     steps: &mut Steps<L>,
 ) -> Turn
     requires reach { window.now.reach ≤ MAX_REACH }
-    requires may { ReadsWithin is_of_log L.may }
-    ensures { IsTurned window.now.from window.now.to window.now.reach
+    requires may { ReadsWithin (log_needs left.old.places) L.may }
+    requires also { ReadsWithin (log_needs right.old.places) L.may }
+    ensures turned { IsTurned window.now.from window.now.to window.now.reach
         (sides left.old right.old steps.old) (sides left.new right.new steps.new) result }
+    ensures places { left.new.places ≡ left.old.places }
+    ensures others { right.new.places ≡ right.old.places }
 {
     let one = left.node();
     let other = right.node();

@@ -1,8 +1,9 @@
 ghost use Rattle.std.specs.Prelude.{◌≡◌, ◌+◌, ◌≤◌, [], ◌∷◌, length, true, false, IfOk, IfSome, option_map};
-ghost use Rattle.step_count.specs.Reads.{is_of_log, ReadsWithin};
+ghost use Rattle.step_count.specs.Reads.{ReadsWithin};
 ghost use Rattle.track_types.specs.Near.{IsBoxWithin, IsCellAsked};
 ghost use Rattle.rule_store.specs.Cost.{parts_reads};
 ghost use Rattle.rule_store.specs.Log.{log_of};
+ghost use Rattle.rule_store.specs.Needs.{log_needs, places_of};
 ghost use Rattle.log_cursor.specs.Start.{IsHullAsked, IsPlaced, IsStart};
 ghost use Rattle.track_types.specs.Boxes.{moved_box};
 ghost use Rattle.encounter.specs.Span.{log_tree};
@@ -47,6 +48,7 @@ impl<'a> Side<'a> {
         requires { IsPlaced view.rules.now start (log_of view) }
         ensures rest { IfOk result (λ side.
             remaining side ≡ log_tree view.entry.rules.now start (log_of view.entry)) }
+        ensures places { IfOk result (λ side. side.places ≡ places_of view.entry) }
         ensures unread { IfOk result (λ side. side.unread ≡ length (log_of view.entry)) }
     {
         let mut pending = Pending::new(alloc, view.rules())?;
@@ -92,9 +94,10 @@ impl<'a> Side<'a> {
     /// Goes to the node after the next one, and answers whether there is one. A symbol of the log is
     /// read.
     pub fn pass<L: Reads>(&mut self, steps: &mut Steps<L>) -> bool
-        requires may { ReadsWithin is_of_log L.may }
+        requires may { ReadsWithin (log_needs self.old.places) L.may }
         ensures more { result ≡ true → IsPassed self.old self.new }
         ensures end { result ≡ false → self.old.later.stops ≡ [] }
+        ensures places { self.new.places ≡ self.old.places }
         ensures cost { steps.new + self.new.unread ≤ steps.old + self.old.unread }
     {
         let next = past(self.at, &self.top);
@@ -111,8 +114,9 @@ impl<'a> Side<'a> {
     /// Opens the next node, which is a rule, by one read.
     pub fn open<L: Reads>(&mut self, steps: &mut Steps<L>)
         requires rule { self.old.opens ≡ true }
-        requires may { ReadsWithin is_of_log L.may }
+        requires may { ReadsWithin (log_needs self.old.places) L.may }
         ensures opened { OpensNode self.old self.new }
+        ensures places { self.new.places ≡ self.old.places }
         ensures cost { steps.new + self.new.unread ≤ steps.old + parts_reads + self.old.unread }
     {
         let Some(entry) = self.top else {

@@ -1,9 +1,11 @@
 ghost use Rattle.std.specs.Prelude.{◌≡◌, ◌+◌, ◌++◌, ◌<◌, ◌≤◌, [], false, length, option_map};
-ghost use Rattle.step_count.specs.Reads.{is_of_log, ReadsWithin};
+ghost use Rattle.step_count.specs.Reads.{ReadsWithin};
 ghost use Rattle.std.specs.Prelude.{replicate, slice_index, All, IfOk, OnOk};
 ghost use Rattle.std.specs.List.{sum_by};
 ghost use Rattle.std.specs.List.Sorted.{IsNonDecreasingBy, IsPermutation};
 ghost use Rattle.std.specs.Option.{option_to_list};
+ghost use Rattle.rule_store.specs.Needs.{log_needs};
+ghost use Rattle.snapshots.specs.Needs.{log_places};
 ghost use Rattle.snapshots.specs.Parts.{snapshot_in};
 ghost use Rattle.snapshots.specs.Sound.{IsBlock};
 ghost use Rattle.slice_search.specs.Sought.{first_stop_in, log_reads, AreSought};
@@ -51,7 +53,8 @@ impl FirstHits {
         requires blocks { AreSought sought.now.stores.now sought.now.period sought.now.from
             sought.now.to sought.now.test.now.region (W.left blocks.old) }
         requires may { ReadsWithin (W.needs blocks.old) L.may }
-        requires logs { ReadsWithin is_of_log L.may }
+        requires logs { ReadsWithin (log_needs (log_places (snapshot_in sought.now.stores.now sought.now.period)))
+            L.may }
         ensures first { OnOk result (AreFirst sought.now.stores.now sought.now.from sought.now.to
             sought.now.test.now.region (sought.now.period + 1) self.new.known.items
             self.new.found.items) }
@@ -78,7 +81,8 @@ impl FirstHits {
     ) -> Result<(), Memory>
         requires block { IsBlock (snapshot_in sought.now.stores.now sought.now.period) block.now }
         requires known { block.now.index < length self.old.known.items }
-        requires may { ReadsWithin is_of_log L.may }
+        requires may { ReadsWithin (log_needs (log_places (snapshot_in sought.now.stores.now sought.now.period)))
+            L.may }
         ensures known { OnOk result (self.new.known.items ≡ known_after (first_stop_in
             sought.now.stores.now sought.now.period sought.now.from sought.now.to
             sought.now.test.now.region block.now) block.now.index self.old.known.items) }

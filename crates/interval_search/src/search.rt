@@ -33,7 +33,7 @@ pub fn interval<L: Reads>(
     requires from { IsAsked from }
     requires to { IsAsked to }
     requires region { IsRegionAsked test.now.region }
-    requires may { ReadsWithin (needs_between stores.now.frame from to) L.may }
+    requires may { ReadsWithin (needs_between stores.now from to) L.may }
     ensures ok { IfOk result (λ found.
         found.items ≡ hits_of (chart_in stores.now).rows from to test.now.region) }
     ensures cost { steps.new ≤ steps.old + interval_cost stores.now from to test.now.region }

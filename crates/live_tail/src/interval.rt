@@ -47,7 +47,7 @@ pub fn interval<L: Reads>(
     requires from { IsAsked from }
     requires to { IsAsked to }
     requires region { IsRegionAsked region.now }
-    requires may { ReadsWithin (needs_between index.index.now.frame from to) L.may }
+    requires may { ReadsWithin (needs_between index.index.now from to) L.may }
     ensures ok { IfOk result (λ found. found.items ≡ hits_of
         (rows_of_both (chart_in index.entry.index.now).rows (rows_of_tail tail.now))
         from to region.now) }
@@ -90,7 +90,7 @@ fn push_standing<L: Reads>(
     requires from { IsAsked window.0 }
     requires to { IsAsked window.1 }
     requires region { IsRegionAsked region.now }
-    requires may { ReadsWithin (needs_between index.index.now.frame window.0 window.1) L.may }
+    requires may { ReadsWithin (needs_between index.index.now window.0 window.1) L.may }
     ensures found { OnOk result (found.new.items ≡ found.old.items ++ filter_map (standing
         (chart_in index.entry.index.now).rows (rows_of_tail tail.now) window.0 window.1 region.now)
         hits.now) }
@@ -158,7 +158,7 @@ impl<'a> Window<'a> {
         requires table { IsTable (chart_in self.now.index.index.now) }
         requires from { IsAsked self.now.from }
         requires to { IsAsked self.now.to }
-        requires may { ReadsWithin (needs_between self.now.index.index.now.frame self.now.from self.now.to)
+        requires may { ReadsWithin (needs_between self.now.index.index.now self.now.from self.now.to)
             L.may }
         ensures found { OnOk result (found.new.items ≡ found.old.items ++ filter_map (standing
             (chart_in self.now.index.index.now).rows (rows_of_tail self.now.tail.now)
@@ -184,7 +184,7 @@ impl<'a> Window<'a> {
         requires table { IsTable (chart_in self.now.index.index.now) }
         requires from { IsAsked self.now.from }
         requires to { IsAsked self.now.to }
-        requires may { ReadsWithin (needs_between self.now.index.index.now.frame self.now.from self.now.to)
+        requires may { ReadsWithin (needs_between self.now.index.index.now self.now.from self.now.to)
             L.may }
         ensures ok { IfOk result (λ stands. stands ≡ standing
             (chart_in self.now.index.index.now).rows (rows_of_tail self.now.tail.now)
@@ -208,7 +208,7 @@ impl<'a> Window<'a> {
         requires table { IsTable (chart_in self.now.index.index.now) }
         requires from { IsAsked self.now.from }
         requires to { IsAsked self.now.to }
-        requires may { ReadsWithin (needs_between self.now.index.index.now.frame self.now.from self.now.to)
+        requires may { ReadsWithin (needs_between self.now.index.index.now self.now.from self.now.to)
             L.may }
         ensures ok { IfOk result (λ hit. hit ≡ hit_in
             (rows_of_both (chart_in self.now.index.index.now).rows (rows_of_tail self.now.tail.now))

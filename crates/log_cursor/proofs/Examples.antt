@@ -35,9 +35,10 @@ unfolding cell_among block_stops stops_after log_values values_of expansion_of t
 is_absent = refl
 
 -- rule 3 and its second part meet the window
-windowed : walk_from four log (start_at (pos 10) (cell_with (pos 5) (pos 5))) (pos 13) (pos 14)
+windowed : walk_from four (0, 2) log (start_at (pos 10) (cell_with (pos 5) (pos 5))) (pos 13) (pos 14)
     ≡ record {
       rules = four;
+      places = (0, 2);
       stops = stop_at (pos 13) (cell_with (pos 7) (pos 5)) ∷ [];
       reads = 4;
       unread = 2;
@@ -50,7 +51,7 @@ windowed = refl
 -- the whole block is read for five reads; up to the first movement they are four, since rule 3 and its first part are
 -- opened, and up to the anchor the two of its symbols
 abbrev whole : ℤ → ℕ
-whole = reads_to (walk_from four log (start_at (pos 10) (cell_with (pos 5) (pos 5))) (pos 10) (pos 20))
+whole = reads_to (walk_from four (0, 2) log (start_at (pos 10) (cell_with (pos 5) (pos 5))) (pos 10) (pos 20))
 
 all_reads : whole (pos 20) ≡ 5
 unfolding begins_left nodes_in parsed table_of_rules bounding_box_of box_round cells_along move_of
@@ -65,8 +66,8 @@ unfolding begins_left nodes_in parsed table_of_rules bounding_box_of box_round c
 reads_to_the_anchor = refl
 
 -- a window that ends before it begins
-backwards : walk_from four log (start_at (pos 10) (cell_with (pos 5) (pos 5))) (pos 14) (pos 13) ≡ at_rest four
-backwards = sym (walk_from-empty four log (start_at (pos 10) (cell_with (pos 5) (pos 5))) (pos 14) (pos 13)
+backwards : walk_from four (0, 2) log (start_at (pos 10) (cell_with (pos 5) (pos 5))) (pos 14) (pos 13) ≡ at_rest four (0, 2)
+backwards = sym (walk_from-empty four (0, 2) log (start_at (pos 10) (cell_with (pos 5) (pos 5))) (pos 14) (pos 13)
     (omega (arith, ints)))
 
 abbrev anchor : Start

@@ -175,10 +175,10 @@ module _ (rules : RulesView) (from to instant : ℤ) (window : from ≤ℤ int_m
       (is_opened rules start.instant from (int_min instant to)) is_opened-by nodes)
 
 -- a walk that was begun reads no more up to an instant than the window costs that ends there
-pub reads_to-walk_from : (rules : RulesView) (log : List ℕ) (start : Start) (from to instant : ℤ) → from ≤ℤ instant →
-    reads_to (walk_from rules log start from to) instant ≤ block_budget rules start.instant log from instant
+pub reads_to-walk_from : (rules : RulesView) (places : ℕ × ℕ) (log : List ℕ) (start : Start) (from to instant : ℤ) → from ≤ℤ instant →
+    reads_to (walk_from rules places log start from to) instant ≤ block_budget rules start.instant log from instant
 unfolding block_budget
-reads_to-walk_from rules log start from to instant window =
+reads_to-walk_from rules places log start from to instant window =
     let least = int_min_is instant to in
     elim (cases_Bool (le_z from to)) [
       | inl some ↦

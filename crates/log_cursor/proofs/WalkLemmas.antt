@@ -51,7 +51,7 @@ near-anchor (Some stop) cell near same = subst IsCellAsked (sym same) near
 pub walk_of-walk_from : (pending : PendingView) (anchor : Option Stop) (start : Start) (from to : ℤ) (log : List ℕ) →
     pending.symbols ≡ log → pending.unread ≡ length log →
     option_to_list anchor ≡ in_window from to (stop_at start.instant start.cell ∷ []) → from ≤ℤ to →
-    walk_of pending anchor start from to ≡ walk_from pending.rules log start from to
+    walk_of pending anchor start from to ≡ walk_from pending.rules pending.places log start from to
 unfolding in_window block_stops block_budget
 walk_of-walk_from pending anchor start from to log symbols unread first window =
     let stop = stop_at start.instant start.cell in
@@ -69,7 +69,7 @@ stops_left-end rules from to start symbols end = rw (end, stops_after-none rules
 
 -- a walk with nothing left
 pub walk_of-none : (pending : PendingView) (start : Start) (from to : ℤ) → pending.symbols ≡ [] → pending.unread ≡ 0 →
-    walk_of pending None start from to ≡ at_rest pending.rules
+    walk_of pending None start from to ≡ at_rest pending.rules pending.places
 unfolding begins_left nodes_in
 walk_of-none pending start from to symbols unread =
     rw (
@@ -96,10 +96,10 @@ begins_left-empty rules log start from to none =
     (λ node among. rw none refl))
 
 -- a walk that was begun over it has nothing left
-pub walk_from-empty : (rules : RulesView) (log : List ℕ) (start : Start) (from to : ℤ) → to <ℤ from →
-    at_rest rules ≡ walk_from rules log start from to
+pub walk_from-empty : (rules : RulesView) (places : ℕ × ℕ) (log : List ℕ) (start : Start) (from to : ℤ) → to <ℤ from →
+    at_rest rules places ≡ walk_from rules places log start from to
 unfolding block_budget
-walk_from-empty rules log start from to empty =
+walk_from-empty rules places log start from to empty =
     let none : le_z from to ≡ false = grind (arith, ints) in
     rw (
       in_window-empty from to (block_stops rules start.instant start.cell log) empty,

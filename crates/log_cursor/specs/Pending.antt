@@ -5,13 +5,15 @@ use Rattle.rule_store.specs.Expansion.{depth_in, depth_of}
 use Rattle.rule_store.specs.Entry.{entry_of}
 use Rattle.rule_store.specs.Flaws.{AreRules}
 use Rattle.rule_store.specs.Log.{log_of}
+use Rattle.rule_store.specs.Needs.{places_of}
 use Rattle.rule_store.specs.declared.entry.Entry.{Entry}
 use Rattle.rule_store.specs.declared.log_view.LogView.{LogView}
 
--- the rules, the symbols that are still to come, how many of them are still to be read, and how many are the parts of
--- rules that were opened
+-- the rules, where the symbols of the log stand, those that are still to come, how many of them are still to be read, and
+-- how many are the parts of rules that were opened
 pub record PendingView : Type 0 where
   pub rules : RulesView
+  pub places : ℕ × ℕ
   pub symbols : List ℕ
   pub unread : ℕ
   pub depth : ℕ
@@ -24,6 +26,7 @@ log_from view next = drop next (log_of view)
 abbrev pub pending_of : LogView → ℕ → List ℕ → PendingView
 pending_of view next stack = record {
   rules = view.rules.now;
+  places = places_of view;
   symbols = reverse stack ++ log_from view next;
   unread = length (log_from view next);
   depth = length stack;

@@ -11,10 +11,11 @@ use Rattle.log_cursor.specs.Pending.{PendingView}
 use Rattle.log_cursor.specs.Start.{IsWayOf}
 use Rattle.log_cursor.specs.declared.start.Start.{Start}
 
--- the rules, the stops that are left, and how many reads are still to be made for them at most: one for each unread symbol
+-- the rules, where the symbols of the log stand, the stops that are left, and how many reads are still to be made for them at most: one for each unread symbol
 -- of the log, and one for each rule that is opened; `begins` has the first instant of each of these rules
 pub record WalkView : Type 0 where
   pub rules : RulesView
+  pub places : ℕ × ℕ
   pub stops : List Stop
   pub reads : ℕ
   pub unread : ℕ
@@ -32,8 +33,8 @@ IsDrawnInTime before now begun steps stop =
     (instant : ℤ) → stop.instant ≤ℤ instant → steps + now instant ≤ begun + before instant
 
 -- a walk with nothing left
-abbrev pub at_rest : RulesView → WalkView
-at_rest rules = record { rules = rules; stops = []; reads = 0; unread = 0; begins = [] }
+abbrev pub at_rest : RulesView → ℕ × ℕ → WalkView
+at_rest rules places = record { rules = rules; places = places; stops = []; reads = 0; unread = 0; begins = [] }
 
 -- the first instant of a node, in a block whose anchor is at an instant
 abbrev pub begin_of : ℤ → RuleNode → ℤ
@@ -45,9 +46,10 @@ begins_left rules from to start symbols =
     map (begin_of start.instant) (filter (is_opened rules start.instant from to) (nodes_in rules symbols))
 
 -- a walk over the stops of a block in a window
-abbrev pub walk_from : RulesView → List ℕ → Start → ℤ → ℤ → WalkView
-walk_from rules log start from to = record {
+abbrev pub walk_from : RulesView → ℕ × ℕ → List ℕ → Start → ℤ → ℤ → WalkView
+walk_from rules places log start from to = record {
   rules = rules;
+  places = places;
   stops = in_window from to (block_stops rules start.instant start.cell log);
   reads = block_budget rules start.instant log from to;
   unread = if le_z from to then length log else 0;
@@ -66,6 +68,7 @@ opened_left rules from to start symbols = opened_count rules start.instant symbo
 abbrev pub walk_of : PendingView → Option Stop → Start → ℤ → ℤ → WalkView
 walk_of pending anchor start from to = record {
   rules = pending.rules;
+  places = pending.places;
   stops = option_to_list anchor ++ stops_left pending.rules from to start pending.symbols;
   reads = pending.unread + opened_left pending.rules from to start pending.symbols;
   unread = pending.unread;

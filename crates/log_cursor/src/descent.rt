@@ -1,8 +1,9 @@
 ghost use Rattle.std.specs.Prelude.{◌≡◌, ◌+◌, ◌≤◌, ◌<◌, ℤ, length, if◌then◌else◌};
-ghost use Rattle.step_count.specs.Reads.{is_of_log, ReadsWithin};
+ghost use Rattle.step_count.specs.Reads.{ReadsWithin};
 ghost use Rattle.std.specs.Option.{option_map};
 ghost use Rattle.track_types.specs.declared.region.Region.{Region};
 ghost use Rattle.rule_store.specs.Log.{log_of};
+ghost use Rattle.rule_store.specs.Needs.{log_needs, places_of, rule_needs};
 ghost use Rattle.rule_store.specs.View.{RulesView};
 ghost use Rattle.log_cursor.specs.Descent.{
   end_stage,
@@ -60,7 +61,7 @@ impl Descent {
         instant: i64,
         steps: &mut Steps<L>,
     ) -> Option<u32>
-        requires may { ReadsWithin is_of_log L.may }
+        requires may { ReadsWithin (log_needs (places_of view)) L.may }
         ensures value { result ≡ first_needed (log_of view.entry) start instant }
         ensures cost { steps.new ≡ steps.old + first_reads result }
     {
@@ -83,7 +84,7 @@ impl Descent {
     ) -> Descent
         requires placed { IsPlaced view.rules.now start (log_of view) }
         requires first { first ≡ first_needed (log_of view) start instant }
-        requires may { ReadsWithin is_of_log L.may }
+        requires may { ReadsWithin (log_needs (places_of view)) L.may }
         ensures sound { IsDescent view.entry.rules.now instant result }
         ensures hit { hit_of view.entry.rules.now instant test.now.region result
             ≡ first_hit_of view.entry.rules.now (log_of view.entry) start instant instant
@@ -164,7 +165,7 @@ impl Descent {
     /// The search after the rule that touches the region was opened.
     pub fn opened<L: Reads>(self, rules: &RuleStore, instant: i64, steps: &mut Steps<L>) -> Descent
         requires sound { IsDescent rules.now instant self }
-        requires may { ReadsWithin is_of_log L.may }
+        requires may { ReadsWithin rule_needs L.may }
         ensures sound { IsDescent rules.now instant result }
         ensures hit { (region : Region) → hit_of rules.now instant region result
             ≡ hit_of rules.now instant region self }

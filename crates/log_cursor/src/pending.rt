@@ -1,8 +1,9 @@
 ghost use Rattle.std.specs.Prelude.{◌≡◌, ◌+◌, ◌<◌, ◌≤◌, [], ◌∷◌, length, IfNone, IfSome, IfOk, nat_le};
-ghost use Rattle.step_count.specs.Reads.{is_of_log, ReadsWithin};
+ghost use Rattle.step_count.specs.Reads.{ReadsWithin};
 ghost use Rattle.rule_store.specs.Flaws.{AreRules, left_of, right_of};
 ghost use Rattle.rule_store.specs.Log.{log_of};
 ghost use Rattle.rule_store.specs.Cost.{parts_reads};
+ghost use Rattle.rule_store.specs.Needs.{log_needs, places_of};
 ghost use Rattle.log_cursor.specs.Pending.{IsRoomy, IsTaken};
 ghost use Rattle.rule_store.specs.View.{symbols_in};
 
@@ -20,7 +21,7 @@ const INLINE: usize = 24;
 /// its two parts come next.
 ///
 /// The parts that wait are kept on a stack, which has room for those of the deepest symbol from the
-/// start. Contracts see the rules, the symbols, the next one first, how many of them are still to be
+/// start. Contracts see the rules, where the symbols of the log stand, the symbols, the next one first, how many of them are still to be
 /// read, and how many parts wait.
 #[derive(Drop)]
 pub struct Pending<'a> {
@@ -43,6 +44,7 @@ impl<'a> Pending<'a> {
     /// No symbols of these rules, and room for the parts of the deepest.
     pub fn new(alloc: Global, rules: &'a RuleStore) -> Result<Pending<'a>, Memory>
         ensures rules { IfOk result (λ pending. pending.rules ≡ rules.now) }
+        ensures places { IfOk result (λ pending. pending.places ≡ (0, 0)) }
         ensures symbols { IfOk result (λ pending. pending.symbols ≡ []) }
         ensures unread { IfOk result (λ pending. pending.unread ≡ 0) }
     {
@@ -60,6 +62,7 @@ impl<'a> Pending<'a> {
     pub fn begin(&mut self, view: LogView<'a>)
         requires { view.rules.now ≡ self.old.rules }
         ensures rules { self.new.rules ≡ self.old.rules }
+        ensures places { self.new.places ≡ places_of view.entry }
         ensures symbols { self.new.symbols ≡ log_of view.entry }
         ensures unread { self.new.unread ≡ length (log_of view.entry) }
         ensures sound { AreRules self.new.rules }
@@ -72,6 +75,7 @@ impl<'a> Pending<'a> {
     /// Drops all symbols that were left.
     pub fn end(&mut self)
         ensures rules { self.new.rules ≡ self.old.rules }
+        ensures places { self.new.places ≡ self.old.places }
         ensures symbols { self.new.symbols ≡ [] }
         ensures unread { self.new.unread ≡ 0 }
     {
@@ -81,8 +85,9 @@ impl<'a> Pending<'a> {
 
     /// Takes the next symbol off and answers its entry. A symbol of the log is read.
     pub fn next<L: Reads>(&mut self, steps: &mut Steps<L>) -> Option<Entry>
-        requires may { ReadsWithin is_of_log L.may }
+        requires may { ReadsWithin (log_needs self.old.places) L.may }
         ensures rules { self.new.rules ≡ self.old.rules }
+        ensures places { self.new.places ≡ self.old.places }
         ensures none { IfNone result (self.old.symbols ≡ []) }
         ensures end { IfNone result (self.new.symbols ≡ []) }
         ensures found { IfSome result (λ entry. IsTaken self.old self.new entry) }
@@ -113,8 +118,9 @@ impl<'a> Pending<'a> {
     pub fn open<L: Reads>(&mut self, rule: u32, steps: &mut Steps<L>)
         requires rule { length self.old.rules.alphabet ≤ rule }
         requires roomy { IsRoomy self.old.rules self.old.depth rule }
-        requires may { ReadsWithin is_of_log L.may }
+        requires may { ReadsWithin (log_needs self.old.places) L.may }
         ensures rules { self.new.rules ≡ self.old.rules }
+        ensures places { self.new.places ≡ self.old.places }
         ensures symbols { self.new.symbols
             ≡ left_of self.old.rules rule ∷ right_of self.old.rules rule ∷ self.old.symbols }
         ensures unread { self.new.unread ≡ self.old.unread }

@@ -1,7 +1,8 @@
 ghost use Rattle.std.specs.Prelude.{◌≡◌, ◌+◌, ◌≤◌, ◌≤ℤ◌, ◌<ℤ◌, [], ◌∷◌, length, IfOk, IfSome};
-ghost use Rattle.step_count.specs.Reads.{is_of_log, ReadsWithin};
+ghost use Rattle.step_count.specs.Reads.{ReadsWithin};
 ghost use Rattle.track_types.specs.Near.{IsBoxWithin, IsCellAsked};
 ghost use Rattle.rule_store.specs.Log.{in_window, log_of, stop_at};
+ghost use Rattle.rule_store.specs.Needs.{log_needs, places_of};
 ghost use Rattle.log_cursor.specs.Start.{IsBoxAsked, IsHullAsked, IsPlaced, IsWayOf};
 ghost use Rattle.track_types.specs.Boxes.{moved_box};
 ghost use Rattle.log_cursor.specs.Walk.{opened_left};
@@ -46,7 +47,7 @@ pub fn first_hit<L: Reads>(
     steps: &mut Steps<L>,
 ) -> Result<Option<Stop>, Memory>
     requires placed { IsPlaced view.rules.now start (log_of view) }
-    requires may { ReadsWithin is_of_log L.may }
+    requires may { ReadsWithin (log_needs (places_of view)) L.may }
     ensures value { IfOk result (λ found. found
         ≡ first_hit_of view.entry.rules.now (log_of view.entry) start from to test.now.region) }
     ensures cost { steps.new ≤ steps.old + (length (log_of view.entry)
@@ -90,12 +91,13 @@ pub(crate) fn hit_after<L: Reads>(
 ) -> Option<Stop>
     requires way { IsWayOf pending.old.rules start pending.old.symbols }
     requires window { from ≤ℤ to }
-    requires may { ReadsWithin is_of_log L.may }
+    requires may { ReadsWithin (log_needs pending.old.places) L.may }
     ensures value { result ≡ hit_left pending.old.rules from to test.now.region start
         pending.old.symbols }
     ensures left { IfSome result (IsHitOf test.now.region from to start pending.old pending.new
         steps.old steps.new) }
     ensures rules { pending.new.rules ≡ pending.old.rules }
+    ensures places { pending.new.places ≡ pending.old.places }
     ensures cost { steps.new ≤ steps.old + (pending.old.unread + touching_left
         pending.old.rules from to test.now.region start pending.old.symbols) }
     ensures budget { steps.new ≤ steps.old + (pending.old.unread + opened_left
@@ -137,12 +139,13 @@ fn hit_beyond<L: Reads>(
 ) -> Option<Stop>
     requires way { IsWayOf pending.old.rules start pending.old.symbols }
     requires window { from ≤ℤ to }
-    requires may { ReadsWithin is_of_log L.may }
+    requires may { ReadsWithin (log_needs pending.old.places) L.may }
     ensures value { result ≡ hit_left pending.old.rules from to test.now.region start
         pending.old.symbols }
     ensures left { IfSome result (IsHitOf test.now.region from to start pending.old pending.new
         steps.old steps.new) }
     ensures rules { pending.new.rules ≡ pending.old.rules }
+    ensures places { pending.new.places ≡ pending.old.places }
     ensures cost { steps.new ≤ steps.old + (pending.old.unread + touching_left
         pending.old.rules from to test.now.region start pending.old.symbols) }
     ensures budget { steps.new ≤ steps.old + (pending.old.unread + opened_left

@@ -1,9 +1,10 @@
 ghost use Rattle.std.specs.Prelude.{◌≡◌, ◌+◌, ◌≤◌, ◌<ℤ◌, ◌≤ℤ◌, ◌+ℤ◌, pos, ◌<◌, [], ◌∷◌, length};
-ghost use Rattle.step_count.specs.Reads.{is_of_log, ReadsWithin};
+ghost use Rattle.step_count.specs.Reads.{ReadsWithin};
 ghost use Rattle.rule_store.specs.View.{symbols_in};
 ghost use Rattle.rule_store.specs.Expansion.{depth_in, depth_of};
 ghost use Rattle.rule_store.specs.Entry.{entry_of};
 ghost use Rattle.rule_store.specs.Log.{block_stops, log_of, stops_after};
+ghost use Rattle.rule_store.specs.Needs.{log_needs, places_of, rule_needs};
 ghost use Rattle.log_cursor.specs.Start.{IsPlaced, IsWayOf};
 ghost use Rattle.log_cursor.specs.Seek.{cell_among};
 ghost use Rattle.log_cursor.specs.Cost.{seek_reads};
@@ -28,7 +29,7 @@ pub fn seek<L: Reads>(
     steps: &mut Steps<L>,
 ) -> Option<Cell>
     requires placed { IsPlaced view.rules.now start (log_of view) }
-    requires may { ReadsWithin is_of_log L.may }
+    requires may { ReadsWithin (log_needs (places_of view)) L.may }
     ensures value { result ≡ cell_among (block_stops view.entry.rules.now start.instant start.cell
         (log_of view.entry)) instant }
     ensures cost { steps.new ≤ steps.old
@@ -69,7 +70,7 @@ fn cell_within<L: Reads>(
     requires way { IsWayOf rules.now start (entry.symbol ∷ []) }
     requires after { start.instant <ℤ instant }
     requires within { instant ≤ℤ (start.instant +ℤ pos entry.duration) }
-    requires may { ReadsWithin is_of_log L.may }
+    requires may { ReadsWithin rule_needs L.may }
     ensures value { result ≡ cell_among (stops_after rules.now start.instant start.cell
         (entry.symbol ∷ [])) instant }
     ensures cost { steps.new ≤ steps.old + depth_of rules.now entry.symbol }

@@ -1,6 +1,7 @@
 ghost use Rattle.std.specs.Prelude.{◌≡◌, ◌++◌, ◌+◌, ◌≤◌, ℤ, ◌≤ℤ◌, [], ◌∷◌, IfNone, IfOk, IfSome, option_to_list};
-ghost use Rattle.step_count.specs.Reads.{is_of_log, ReadsWithin};
+ghost use Rattle.step_count.specs.Reads.{ReadsWithin};
 ghost use Rattle.rule_store.specs.Log.{in_window, log_of, stop_at};
+ghost use Rattle.rule_store.specs.Needs.{log_needs, places_of};
 ghost use Rattle.rule_store.specs.Nodes.{block_budget};
 ghost use Rattle.log_cursor.specs.Start.{IsPlaced};
 ghost use Rattle.log_cursor.specs.Touching.{IsDrawnIn};
@@ -23,7 +24,7 @@ use track_types::{Cell, Lazy, Memory, Stop};
 /// throughout. It keeps the parts of rules that are still to come; `new` takes all the memory for
 /// these.
 ///
-/// Contracts see the rules, the stops that are left, and a bound on the reads that are still to be
+/// Contracts see the rules, where the symbols of the log stand, the stops that are left, and a bound on the reads that are still to be
 /// made: for all these stops, and for those up to an instant.
 #[derive(Drop)]
 pub struct BlockWalk<'a> {
@@ -49,7 +50,7 @@ impl<'a> BlockWalk<'a> {
     /// A walk over blocks of these rules, with nothing left. It takes memory for the parts of the
     /// deepest rule, 4 bytes for each, and only where the grammar is deep.
     pub fn new(alloc: Global, rules: &'a RuleStore) -> Result<BlockWalk<'a>, Memory>
-        ensures ok { IfOk result (λ walk. walk ≡ at_rest rules.now) }
+        ensures ok { IfOk result (λ walk. walk ≡ at_rest rules.now (0, 0)) }
     {
         let pending = Pending::new(alloc, rules)?;
         let at = Start {
@@ -73,16 +74,17 @@ impl<'a> BlockWalk<'a> {
     pub fn begin(&mut self, view: LogView<'a>, start: Start, from: i64, to: i64)
         requires rules { view.rules.now ≡ self.old.rules }
         requires placed { IsPlaced view.rules.now start (log_of view) }
-        ensures walk { self.new ≡ walk_from view.entry.rules.now (log_of view.entry) start from to }
+        ensures walk { self.new ≡ walk_from view.entry.rules.now (places_of view.entry)
+            (log_of view.entry) start from to }
         ensures budget_to { (instant : ℤ) → from ≤ℤ instant → reads_to self.new instant
             ≤ block_budget view.entry.rules.now start.instant (log_of view.entry) from instant }
     {
+        self.pending.begin(view);
         if to < from {
             self.pending.end(); // a window with no instant needs no read
             self.anchor = None;
             return;
         }
-        self.pending.begin(view);
         self.anchor = stop_within(start, from, to);
         self.at = start;
         self.from = from;
@@ -94,10 +96,11 @@ impl<'a> BlockWalk<'a> {
     ///
     /// It passes over what `first_hit` does, and takes no memory.
     pub fn draw_in<L: Reads>(&mut self, test: &RegionTest, steps: &mut Steps<L>) -> Option<Stop>
-        requires may { ReadsWithin is_of_log L.may }
+        requires may { ReadsWithin (log_needs self.old.places) L.may }
         ensures drawn { IsDrawnIn test.now.region self.old.stops self.new.stops result }
         ensures cost { steps.new + self.new.reads ≤ steps.old + self.old.reads }
         ensures rules { self.new.rules ≡ self.old.rules }
+        ensures places { self.new.places ≡ self.old.places }
     {
         if let Some(stop) = self.anchor.take() {
             if test.holds(stop.cell) {
@@ -118,22 +121,26 @@ impl<'a> BlockWalk<'a> {
 }
 
 impl<'a> Lazy for BlockWalk<'a> {
+    ghost use Rattle.rule_store.specs.Needs.{log_needs};
+
     type Item = Stop;
 
     ghost left = { λ w. w.stops };
 
     ghost budget = { λ w. w.reads };
 
-    ghost needs = { λ _. is_of_log };
+    ghost needs = { λ w. log_needs w.places };
 
     fn draw<L: Reads>(&mut self, steps: &mut Steps<L>) -> Option<Stop>
-        requires may { ReadsWithin is_of_log L.may }
+        requires may { ReadsWithin (log_needs self.old.places) L.may }
         ensures found { self.old.stops ≡ option_to_list result ++ self.new.stops }
         ensures none { IfNone result (self.old.stops ≡ []) }
         ensures cost { steps.new + self.new.reads ≤ steps.old + self.old.reads }
         ensures in_time { IfSome result
             (IsDrawnInTime (reads_to self.old) (reads_to self.new) steps.old steps.new) }
         ensures rules { self.new.rules ≡ self.old.rules }
+        ensures places { self.new.places ≡ self.old.places }
+        ensures needs { ReadsWithin (log_needs self.new.places) (log_needs self.old.places) }
     {
         if let Some(anchor) = self.anchor.take() {
             return Some(anchor);

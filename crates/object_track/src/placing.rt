@@ -1,7 +1,9 @@
-ghost use Rattle.std.specs.Prelude.{◌≡◌, ◌<◌};
+ghost use Rattle.std.specs.Prelude.{◌≡◌, ◌<◌, Some};
 ghost use Rattle.track_types.specs.Frame.{periods_of};
 ghost use Rattle.rule_store.specs.Log.{log_of};
+ghost use Rattle.rule_store.specs.Needs.{places_of};
 ghost use Rattle.log_cursor.specs.Start.{start_at, IsPlaced};
+ghost use Rattle.snapshots.specs.Needs.{block_places};
 ghost use Rattle.snapshots.specs.Parts.{anchored_at, log_in, rules_in, snapshot_in};
 ghost use Rattle.snapshots.specs.Sound.{IsBlock};
 
@@ -22,6 +24,7 @@ impl<'a> Placed<'a> {
         requires period { period < periods_of stores.now.frame }
         requires block { IsBlock (snapshot_in stores.now period) block.now }
         ensures rules { result.log.rules.now ≡ rules_in stores.now }
+        ensures places { places_of result.log ≡ block_places (Some block.now) }
         ensures log { log_of result.log ≡ log_in stores.now block.now }
         ensures start { result.start
             ≡ start_at (anchored_at stores.now.frame period block.now) block.now.cell }

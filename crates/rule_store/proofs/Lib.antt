@@ -4,6 +4,7 @@ pub mod ExpansionLemmas
 pub mod FlawLemmas
 pub mod LogLemmas
 pub mod NodeLemmas
+pub mod NeedsLemmas
 mod PackLemmas
 mod StoredLemmas
 pub mod TableLemmas

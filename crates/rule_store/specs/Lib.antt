@@ -9,3 +9,4 @@ pub mod Table
 pub mod Log
 pub mod Nodes
 pub mod Cost
+pub mod Needs

@@ -29,7 +29,7 @@ pub fn slice<L: Reads>(
 ) -> Result<Vec<Sighting>, Memory>
     requires instant { IsAsked instant }
     requires region { IsRegionAsked test.now.region }
-    requires may { ReadsWithin (needs_at stores.now.frame instant) L.may }
+    requires may { ReadsWithin (needs_at stores.now instant) L.may }
     ensures ok { IfOk result (λ found.
         found.items ≡ sightings_of (chart_in stores.now).rows instant test.now.region) }
     ensures cost { steps.new ≤ steps.old + slice_cost stores.now instant test.now.region }

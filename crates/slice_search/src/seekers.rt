@@ -1,9 +1,11 @@
 ghost use Rattle.std.specs.Prelude.{◌≡◌, ◌+◌, ◌<◌, ◌≤◌, ℤ, length, All};
-ghost use Rattle.step_count.specs.Reads.{is_of_log, ReadsWithin};
+ghost use Rattle.step_count.specs.Reads.{ReadsWithin};
 ghost use Rattle.std.specs.List.{sum_by};
 ghost use Rattle.track_types.specs.declared.region.Region.{Region};
+ghost use Rattle.rule_store.specs.Needs.{log_needs, rule_needs};
 ghost use Rattle.rule_store.specs.View.{RulesView};
 ghost use Rattle.log_cursor.specs.Descent.{first_reads, rest_of};
+ghost use Rattle.snapshots.specs.Needs.{log_places};
 ghost use Rattle.snapshots.specs.Parts.{rules_in, snapshot_in};
 ghost use Rattle.snapshots.specs.Sound.{IsBlock};
 ghost use Rattle.slice_search.specs.Live.{first_of, AreLive};
@@ -48,7 +50,8 @@ impl Seeker {
         steps: &mut Steps<L>,
     ) -> Option<u32>
         requires block { IsBlock (snapshot_in sought.now.stores.now sought.now.period) block.now }
-        requires may { ReadsWithin is_of_log L.may }
+        requires may { ReadsWithin (log_needs (log_places (snapshot_in sought.now.stores.now sought.now.period)))
+            L.may }
         ensures value { result ≡ first_in sought.now.stores.now sought.now.period sought.now.from
             block.now }
         ensures cost { steps.new ≡ steps.old + first_reads result }
@@ -68,7 +71,8 @@ impl Seeker {
         requires block { IsBlock (snapshot_in sought.now.stores.now sought.now.period) block.now }
         requires first { first ≡ first_in sought.now.stores.now sought.now.period sought.now.from
             block.now }
-        requires may { ReadsWithin is_of_log L.may }
+        requires may { ReadsWithin (log_needs (log_places (snapshot_in sought.now.stores.now sought.now.period)))
+            L.may }
         ensures sound { IsSeeker (rules_in sought.now.stores.now) sought.now.from result }
         ensures seen { seen_by (rules_in sought.now.stores.now) sought.now.from
             sought.now.test.now.region result ≡ sighting_in sought.now.stores.now
@@ -111,7 +115,7 @@ pub(crate) fn search_all<L: Reads>(
 )
     requires few { length seekers.old ≤ 16 }
     requires sound { All (IsSeeker rules.now instant) seekers.old }
-    requires may { ReadsWithin is_of_log L.may }
+    requires may { ReadsWithin rule_needs L.may }
     ensures turned { AreTurned rules.now instant test.now.region seekers.old seekers.new }
     ensures over { sum_by rest_in seekers.new ≡ 0 }
     ensures cost { steps.new ≤ steps.old
@@ -172,7 +176,7 @@ fn open_all<L: Reads>(
     requires few { count ≤ 16 }
     requires live { AreLive live.now count seekers.old }
     requires sound { All (IsSeeker rules.now instant) seekers.old }
-    requires may { ReadsWithin is_of_log L.may }
+    requires may { ReadsWithin rule_needs L.may }
     ensures turned { (region : Region) → AreTurned rules.now instant region seekers.old seekers.new }
     ensures live { AreLive live.now count seekers.new }
     ensures first { 0 < count → turning_in (first_of live.now seekers.old)

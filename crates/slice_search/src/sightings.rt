@@ -1,8 +1,10 @@
 ghost use Rattle.std.specs.Prelude.{◌≡◌, ◌+◌, ◌++◌, ◌≤◌, ℤ, [], length, map, option_to_list, vec_capacity, All, IfOk, OnOk};
-ghost use Rattle.step_count.specs.Reads.{is_of_log, ReadsWithin};
+ghost use Rattle.step_count.specs.Reads.{ReadsWithin};
 ghost use Rattle.std.specs.List.{filter_map, sum_by};
 ghost use Rattle.track_types.specs.declared.region.Region.{Region};
+ghost use Rattle.rule_store.specs.Needs.{log_needs, rule_needs};
 ghost use Rattle.rule_store.specs.View.{RulesView};
+ghost use Rattle.snapshots.specs.Needs.{log_places};
 ghost use Rattle.snapshots.specs.Parts.{rules_in, snapshot_in};
 ghost use Rattle.snapshots.specs.Sound.{IsBlock};
 ghost use Rattle.slice_search.specs.Sightings.{sighting_in};
@@ -27,7 +29,8 @@ pub fn sightings<W: Lazy<Item = Anchored>, L: Reads>(
     requires blocks { All (IsBlock (snapshot_in sought.now.stores.now sought.now.period))
         (W.left blocks.old) }
     requires may { ReadsWithin (W.needs blocks.old) L.may }
-    requires logs { ReadsWithin is_of_log L.may }
+    requires logs { ReadsWithin (log_needs (log_places (snapshot_in sought.now.stores.now sought.now.period)))
+        L.may }
     ensures ok { IfOk result (λ found. found.items ≡ filter_map (sighting_in sought.now.stores.now
         sought.now.period sought.now.from sought.now.from sought.now.test.now.region)
         (W.left blocks.old)) }
@@ -60,7 +63,8 @@ fn push_group<L: Reads>(
     requires none { seekers.old.items ≡ [] }
     requires blocks { All (IsBlock (snapshot_in sought.now.stores.now sought.now.period))
         group.old.items }
-    requires may { ReadsWithin is_of_log L.may }
+    requires may { ReadsWithin (log_needs (log_places (snapshot_in sought.now.stores.now sought.now.period)))
+        L.may }
     ensures found { OnOk result (found.new.items ≡ found.old.items ++ filter_map (sighting_in
         sought.now.stores.now sought.now.period sought.now.from sought.now.from
         sought.now.test.now.region) group.old.items) }
@@ -89,7 +93,8 @@ fn begin_all<L: Reads>(
     requires none { seekers.old.items ≡ [] }
     requires blocks { All (IsBlock (snapshot_in sought.now.stores.now sought.now.period))
         group.now }
-    requires may { ReadsWithin is_of_log L.may }
+    requires may { ReadsWithin (log_needs (log_places (snapshot_in sought.now.stores.now sought.now.period)))
+        L.may }
     ensures sound { All (IsSeeker (rules_in sought.now.stores.now) sought.now.from)
         seekers.new.items }
     ensures seen { filter_map (seen_by (rules_in sought.now.stores.now) sought.now.from
@@ -114,7 +119,8 @@ fn first_symbols<L: Reads>(
     requires few { length group.now ≤ 16 }
     requires blocks { All (IsBlock (snapshot_in sought.now.stores.now sought.now.period))
         group.now }
-    requires may { ReadsWithin is_of_log L.may }
+    requires may { ReadsWithin (log_needs (log_places (snapshot_in sought.now.stores.now sought.now.period)))
+        L.may }
     ensures value { result.items ≡ map (first_in sought.now.stores.now sought.now.period
         sought.now.from) group.now }
     ensures cost { steps.new ≡ steps.old + sum_by (first_reads_in sought.now.stores.now
@@ -141,7 +147,8 @@ fn begin_each<L: Reads>(
         group.now }
     requires firsts { firsts.now ≡ map (first_in sought.now.stores.now sought.now.period
         sought.now.from) group.now }
-    requires may { ReadsWithin is_of_log L.may }
+    requires may { ReadsWithin (log_needs (log_places (snapshot_in sought.now.stores.now sought.now.period)))
+        L.may }
     ensures sound { All (IsSeeker (rules_in sought.now.stores.now) sought.now.from)
         seekers.new.items }
     ensures seen { filter_map (seen_by (rules_in sought.now.stores.now) sought.now.from
@@ -167,7 +174,7 @@ fn push_seen<L: Reads>(
     steps: &mut Steps<L>,
 ) -> Result<(), Memory>
     requires sound { All (IsSeeker (rules_in sought.now.stores.now) sought.now.from) seekers.old.items }
-    requires may { ReadsWithin is_of_log L.may }
+    requires may { ReadsWithin rule_needs L.may }
     ensures found { OnOk result (found.new.items ≡ found.old.items ++ filter_map (seen_by
         (rules_in sought.now.stores.now) sought.now.from sought.now.test.now.region)
         seekers.old.items) }

@@ -1,8 +1,10 @@
 ghost use Rattle.std.specs.Prelude.{◌≡◌, ◌+◌, ◌<◌, ◌≤◌, length, IfOk};
-ghost use Rattle.step_count.specs.Reads.{is_of_log, is_of_period, ReadsWithin};
+ghost use Rattle.step_count.specs.Reads.{is_of_period, ReadsWithin};
 ghost use Rattle.std.specs.List.{sum_by};
 ghost use Rattle.track_types.specs.Frame.{periods_of};
 ghost use Rattle.track_types.specs.Region.{intersects_region};
+ghost use Rattle.rule_store.specs.Needs.{log_needs};
+ghost use Rattle.snapshots.specs.Needs.{log_places};
 ghost use Rattle.snapshots.specs.Parts.{snapshot_in};
 ghost use Rattle.snapshots.specs.Sound.{IsBlock};
 ghost use Rattle.snapshots.specs.TrackWalk.{tracks_needs};
@@ -70,7 +72,8 @@ impl<'a> Sought<'a> {
         steps: &mut Steps<L>,
     ) -> Result<Option<Stop>, Memory>
         requires block { IsBlock (snapshot_in self.now.stores.now self.now.period) block.now }
-        requires may { ReadsWithin is_of_log L.may }
+        requires may { ReadsWithin (log_needs (log_places (snapshot_in self.now.stores.now self.now.period)))
+            L.may }
         ensures value { IfOk result (λ found. found ≡ first_stop_in self.now.stores.now
             self.now.period self.now.from self.now.to self.now.test.now.region block.now) }
         ensures object { block.now.index < length self.now.stores.now.objects }

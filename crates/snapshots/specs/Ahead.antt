@@ -36,9 +36,10 @@ pub record IsAhead (rules : RulesView) (entries : List Entry) (first place read 
   pub short : length rules.symbols < 2 ^ 32
   pub stored : AreStored rules entries first count
 
--- symbols were read, and of the rest only the next place has changed
+-- symbols were read on, and of the rest only the next place has changed
 pub record IsReadOn (old new : AheadView) (before after : ℕ) : Type 0 where
   pub rules_are : new.rules ≡ old.rules
   pub end_is : new.end ≡ old.end
+  pub later : old.read ≤ new.read
   pub within : new.read ≤ new.end
   pub reads : after + old.read ≤ before + new.read

@@ -1,6 +1,7 @@
 ghost use Rattle.std.specs.Prelude.{◌≡◌, ◌+◌, ◌<◌, ◌≤◌, length};
-ghost use Rattle.step_count.specs.Reads.{is_of_log, ReadsWithin};
+ghost use Rattle.step_count.specs.Reads.{ReadsWithin};
 ghost use Rattle.rule_store.specs.Entry.{IsEntryWithin};
+ghost use Rattle.rule_store.specs.Needs.{log_needs};
 ghost use Rattle.snapshots.specs.Ahead.{stored_entry, AreStored};
 
 use rule_store::{Entry, RuleStore};
@@ -67,13 +68,14 @@ impl<'a> Ahead<'a> {
     /// The entry of the next symbol, which comes before the end.
     pub fn next<L: Reads>(&mut self, steps: &mut Steps<L>) -> Entry
         requires within { self.old.place < self.old.end }
-        requires may { ReadsWithin is_of_log L.may }
+        requires may { ReadsWithin (log_needs (self.old.read, self.old.end)) L.may }
         ensures value { result ≡ stored_entry self.old.rules self.old.place }
         ensures reach { IsEntryWithin result }
         ensures rules { self.new.rules ≡ self.old.rules }
         ensures place { self.new.place ≡ self.old.place + 1 }
         ensures end { self.new.end ≡ self.old.end }
         ensures within { self.new.read ≤ self.new.end }
+        ensures later { self.old.read ≤ self.new.read }
         ensures cost { steps.new + self.old.read ≡ steps.old + self.new.read }
     {
         self.read_on(steps);
@@ -85,12 +87,13 @@ impl<'a> Ahead<'a> {
     // Reads the next entries, if all that were read are used.
     fn read_on<L: Reads>(&mut self, steps: &mut Steps<L>)
         requires within { self.old.place < self.old.end }
-        requires may { ReadsWithin is_of_log L.may }
+        requires may { ReadsWithin (log_needs (self.old.read, self.old.end)) L.may }
         ensures rules { self.new.rules ≡ self.old.rules }
         ensures place { self.new.place ≡ self.old.place }
         ensures some { self.new.place < self.new.read }
         ensures end { self.new.end ≡ self.old.end }
         ensures within { self.new.read ≤ self.new.end }
+        ensures later { self.old.read ≤ self.new.read }
         ensures cost { steps.new + self.old.read ≡ steps.old + self.new.read }
     {
         if self.place < self.read {
@@ -113,7 +116,7 @@ fn read_entries<L: Reads>(
 )
     requires within { from + count ≤ length rules.now.symbols }
     requires few { count ≤ 16 }
-    requires may { ReadsWithin is_of_log L.may }
+    requires may { ReadsWithin (log_needs (from, from + count)) L.may }
     ensures stored { AreStored rules.now entries.new from count }
     ensures cost { steps.new ≡ steps.old + count }
 {

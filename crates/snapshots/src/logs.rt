@@ -1,9 +1,10 @@
 ghost use Rattle.std.specs.Prelude.{◌≡◌, ◌+◌, ◌<◌, ◌≤◌, ◌^◌, None, Some, length, IfErr, IfOk, OnOk};
 ghost use Rattle.std.specs.Prelude.{map, max, sum, pos, ◌≤ℤ◌, IfSome, IsTrue};
-ghost use Rattle.step_count.specs.Reads.{is_of_log, ofPeriod, ReadsWithin};
+ghost use Rattle.step_count.specs.Reads.{ofPeriod, ReadsWithin};
 ghost use Rattle.track_types.specs.Frame.{instants_in, periods_of, IsFrame};
 ghost use Rattle.track_types.specs.Near.{IsBoxWithin, IsCellWithin, IsNear, IsWithin};
 ghost use Rattle.track_types.specs.declared.limit.TheConstants.{MAX_HEIGHT, MAX_SYMBOLS};
+ghost use Rattle.rule_store.specs.Needs.{log_needs};
 ghost use Rattle.snapshots.specs.Ahead.{IsReadOn};
 ghost use Rattle.snapshots.specs.Flaws.{IsSnapFaultFor};
 ghost use Rattle.snapshots.specs.Parts.{block_log};
@@ -12,6 +13,7 @@ ghost use Rattle.snapshots.specs.IndexCost.{blocks_reads};
 ghost use Rattle.log_bounds.specs.Bounds.{duration_of_log, IsReachable};
 ghost use Rattle.snapshots.specs.JoinFlaws.{blocks_flaw, has_columns, has_lines, is_along, log_flaw};
 ghost use Rattle.snapshots.specs.JoinFlaws.{off_grid_at, passes_grid};
+ghost use Rattle.snapshots.specs.Needs.{log_places};
 ghost use Rattle.snapshots.specs.TrackTree.{IsKept, IsOfPeriod};
 ghost use Rattle.snapshots.specs.Tracks.{blocks_by_leaf, track_box};
 ghost use Rattle.snapshots.specs.Speed.{block_speed, blocks_speed};
@@ -63,7 +65,7 @@ pub fn judge_snapshot<L: Reads>(
     requires symbols { snapshot.now.start + sum snapshot.now.parts.lengths
         ≤ length rules.now.symbols }
     requires period { IsTrue (L.may (ofPeriod number)) }
-    requires may { ReadsWithin is_of_log L.may }
+    requires may { ReadsWithin (log_needs (log_places snapshot.now)) L.may }
     ensures exact { OnOk result (blocks_flaw rules.now snapshot.now ≡ None) }
     ensures snapshot { OnOk result (IsSnapshot snapshot.now) }
     ensures speed { IfOk result (λ judged. judged.speed ≡ blocks_speed rules.now snapshot.now) }
@@ -97,7 +99,7 @@ fn judge_logs<L: Reads>(
     requires symbols { snapshot.now.start + sum snapshot.now.parts.lengths
         ≤ length rules.now.symbols }
     requires blocks { blocks.now ≡ all_blocks snapshot.now }
-    requires may { ReadsWithin is_of_log L.may }
+    requires may { ReadsWithin (log_needs (log_places snapshot.now)) L.may }
     ensures exact { OnOk result (blocks_flaw rules.now snapshot.now ≡ None) }
     ensures speed { IfOk result (λ logs. logs.speed ≡ blocks_speed rules.now snapshot.now) }
     ensures areas { IfOk result (λ logs.
@@ -139,7 +141,7 @@ fn judge_log<L: Reads>(
     requires end { block.now.from + block.now.len ≤ ahead.old.end }
     requires read { ahead.old.read ≤ ahead.old.end }
     requires long { block.now.from + block.now.len ≤ MAX_SYMBOLS }
-    requires may { ReadsWithin is_of_log L.may }
+    requires may { ReadsWithin (log_needs (ahead.old.read, ahead.old.end)) L.may }
     ensures exact { OnOk result (log_flaw frame.now ahead.old.rules number rank block.now ≡ None) }
     ensures flaw { IfErr result (λ fault.
         IsSnapFaultFor (log_flaw frame.now ahead.old.rules number rank block.now) fault) }
@@ -177,7 +179,7 @@ fn read_log<L: Reads>(
     requires end { block.now.from + block.now.len ≤ ahead.old.end }
     requires read { ahead.old.read ≤ ahead.old.end }
     requires long { block.now.from + block.now.len ≤ MAX_SYMBOLS }
-    requires may { ReadsWithin is_of_log L.may }
+    requires may { ReadsWithin (log_needs (ahead.old.read, ahead.old.end)) L.may }
     ensures inside { OnOk result
         (off_grid_at frame.now ahead.old.rules block.now.cell (block_log ahead.old.rules block.now) ≡ None) }
     ensures ok { IfOk result (λ summary.

@@ -76,7 +76,7 @@ abbrev pub path : Parts
 path = with frame (2 ∷ 3 ∷ []) [] (block 0 (corner 2) 2 ∷ []) (0 ∷ 1 ∷ [])
 
 -- two periods of two instants
-abbrev halves : Frame
+abbrev pub halves : Frame
 halves = record {
   version = 1;
   first = pos 0;

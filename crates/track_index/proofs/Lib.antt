@@ -15,3 +15,4 @@ mod PathLemmas
 mod SeekingLemmas
 mod Examples
 mod SearchExamples
+mod NeedsExamples

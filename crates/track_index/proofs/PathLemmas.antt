@@ -90,20 +90,20 @@ module _ (parts : Parts) (valid : IsValid parts) (index : ℕ) (from to : ℤ) w
           ])
 
       -- there is one, over which a walk is begun
-      pub drawing-walk_from : (block : Anchored) (walk : WalkView) (rules : RulesView) (log : List ℕ) (start : Start)
+      pub drawing-walk_from : (block : Anchored) (walk : WalkView) (rules : RulesView) (places : ℕ × ℕ) (log : List ℕ) (start : Start)
           (low high : ℤ) → Some block ≡ block_of (snapshot_in stores next) index → IsBlock (snapshot_in stores next) block → rules ≡ rules_in stores
           → log ≡ log_in stores block → start ≡ start_at (anchored_at stores.frame next block) block.cell → low ≡ from
-          → high ≡ to → walk ≡ walk_from rules log start low high
+          → high ≡ to → walk ≡ walk_from rules places log start low high
           → IsDrawing first before stores parts index from to (next + 1) behind walk looked
       unfolding stops_in
-      drawing-walk_from block walk rules log start low high some is_block of its_log its_start is_from is_to is_begun =
+      drawing-walk_from block walk rules places log start low high some is_block of its_log its_start is_from is_to is_begun =
           let one : Some block ≡ block_of (snapshot_in parts next) index = some ∙ ap (λ s. block_of s index) here in
           let own : (end : ℤ) → period_cost parts index from end next
           ≡ lookup_reads + walk_cost parts from end next (Some block) = λ end. rw (← one) refl in
-          let same : walk ≡ walk_from (rules_in parts) (log_in parts block)
+          let same : walk ≡ walk_from (rules_in parts) places (log_in parts block)
           (start_at (anchored_at parts.frame next block) block.cell) from to =
           is_begun ∙ (rw (of, its_log, its_start, is_from, is_to)
-          (ap (λ (p : Parts). walk_from (rules_in p) (log_in p block)
+          (ap (λ (p : Parts). walk_from (rules_in p) places (log_in p block)
           (start_at (anchored_at p.frame next block) block.cell) from to) (sym is.its))) in
           let within : next < periods_of parts.frame = omega (arith, less, is.walk.within) in
           drawing-next stores first now walk before steps looked is empty
@@ -112,7 +112,7 @@ module _ (parts : Parts) (valid : IsValid parts) (index : ℕ) (from to : ℤ) w
           (omega (arith, cost, found, own to, ap (λ (w : WalkView). w.reads) same))
           (λ instant window.
           let its : IsBlock (snapshot_in parts next) block = subst (λ s. IsBlock s block) here is_block in
-          let begun = walk_cost-until parts valid next within block its from to instant window in
+          let begun = walk_cost-until parts valid next within block its places from to instant window in
           let reads = ap (λ (w : WalkView). block_reads_to parts.frame (next + 1) w instant) same in
           omega (arith, cost, found, own instant, begun, reads))
 

@@ -44,9 +44,9 @@ period-onward frame i j low =
     let more : i * frame.period ≤ j * frame.period = mul-le-mul_right frame.period low in omega (arith, ints, more)
 
 -- a walk with nothing left reads nothing
-pub block_reads_to-none : (frame : Frame) (next : ℕ) (block : WalkView) (rules : RulesView) (instant : ℤ)
-    → block ≡ at_rest rules → block_reads_to frame next block instant ≡ 0
-block_reads_to-none frame next block rules instant rests =
+pub block_reads_to-none : (frame : Frame) (next : ℕ) (block : WalkView) (rules : RulesView) (places : ℕ × ℕ) (instant : ℤ)
+    → block ≡ at_rest rules places → block_reads_to frame next block instant ≡ 0
+block_reads_to-none frame next block rules places instant rests =
     rw rests (elim (cases_Bool (le_z (first_in frame next) instant)) [
       | inl begins ↦ rw begins refl
       | inr before ↦ rw before refl
@@ -141,12 +141,12 @@ module _ (parts : Parts) (valid : IsValid parts) (number : ℕ) (within : number
       (filter test stops) (All-contains_itself (filter test stops))
 
   -- a walk over a block reads no more up to an instant than the block costs by then
-  pub walk_cost-until : (block : Anchored) → IsBlock (snapshot_in parts number) block → (from to instant : ℤ)
+  pub walk_cost-until : (block : Anchored) → IsBlock (snapshot_in parts number) block → (places : ℕ × ℕ) (from to instant : ℤ)
       → from ≤ℤ instant
-      → block_reads_to parts.frame (number + 1) (walk_from (rules_in parts) (log_in parts block)
+      → block_reads_to parts.frame (number + 1) (walk_from (rules_in parts) places (log_in parts block)
       (start_at (anchored_at parts.frame number block) block.cell) from to) instant
       ≤ walk_cost parts from instant number (Some block)
-  walk_cost-until block its from to instant window =
+  walk_cost-until block its places from to instant window =
       let rules = rules_in parts in
       let log = log_in parts block in
       let anchored = anchored_at parts.frame number block in
@@ -160,6 +160,6 @@ module _ (parts : Parts) (valid : IsValid parts) (number : ℕ) (within : number
             rw begins (block_budget-until rules anchored from to instant window log
             (omega (arith, ints, lasts, long, offset, next, begun)))
         | inr before ↦
-            let most = reads_to-walk_from rules log (start_at anchored block.cell) from to instant window in
+            let most = reads_to-walk_from rules places log (start_at anchored block.cell) from to instant window in
             rw before (omega (arith, most))
       ]

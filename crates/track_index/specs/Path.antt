@@ -1,17 +1,19 @@
 -- What is left of the walk of a path: the walk over the block that was begun, and the periods after it.
-use Rattle.std.specs.Prelude.{◌≡◌, ℕ, ◌+◌, ◌-◌, ◌<◌, ◌≤◌, ℤ, ◌≤ℤ◌, Bool, ◌&&◌, if◌then◌else◌, List, ◌++◌, All, None, filter, length, min, nat_le, nat_lt}
+use Rattle.std.specs.Prelude.{◌≡◌, ℕ, ◌+◌, ◌-◌, ◌<◌, ◌≤◌, ℤ, ◌≤ℤ◌, Bool, ◌&&◌, ◌||◌, if◌then◌else◌, List, ◌++◌, All, None, Some, filter, length, min, nat_le, nat_lt}
 use Rattle.std.specs.Int.Signed.{le_z}
 use Rattle.std.specs.List.{range_with_len, sum_by}
-use Rattle.step_count.specs.Reads.{Read, is_of_periods}
+use Rattle.step_count.specs.Reads.{Read}
 use Rattle.track_types.specs.Frame.{periods_of}
 use Rattle.track_types.specs.StopWalk.{first_past, up_to}
 use Rattle.track_types.specs.declared.frame.Frame.{Frame}
 use Rattle.track_types.specs.declared.parts.Parts.{Parts}
 use Rattle.track_types.specs.declared.region.Region.{Region}
 use Rattle.track_types.specs.declared.stop.Stop.{Stop}
+use Rattle.rule_store.specs.Needs.{log_needs}
 use Rattle.log_cursor.specs.Touching.{first_among}
 use Rattle.log_cursor.specs.Walk.{reads_to, WalkView}
 use Rattle.snapshots.specs.IndexCost.{period_cost}
+use Rattle.snapshots.specs.Needs.{is_of_block, needs_in}
 use Rattle.snapshots.specs.Parts.{first_in, rules_in}
 use Rattle.object_track.specs.Between.{cost_between, stops_between}
 
@@ -55,13 +57,17 @@ path_walk_of parts index from to next behind block = record {
 abbrev pub is_left : ℕ → ℕ → ℕ → Bool
 is_left next behind period = nat_le next period && nat_lt period behind
 
--- the reads of logs, and those of the periods from one to before another
-abbrev pub left_needs : ℕ → ℕ → Read → Bool
-left_needs next behind = is_of_periods (is_left next behind)
+-- the reads of the periods from one to before another, and of an object's logs there, by its place among all objects
+abbrev pub left_needs : Parts → ℕ → ℕ → ℕ → Read → Bool
+left_needs parts index next behind = needs_in parts.frame (is_left next behind) (is_of_block parts (Some index))
+
+-- these reads, and those of a log whose symbols stand at these places
+abbrev pub walk_needs : ℕ × ℕ → Parts → ℕ → ℕ → ℕ → Read → Bool
+walk_needs places parts index next behind read = log_needs places read || left_needs parts index next behind read
 
 -- the reads that are needed for the stops that are left of a walk
 abbrev pub path_needs : PathView → Read → Bool
-path_needs path = left_needs path.next path.behind
+path_needs path = walk_needs path.block.places path.parts path.index path.next path.behind
 
 -- the reads of the block that was begun up to an instant: all of them where the next period begins by then
 abbrev pub block_reads_to : Frame → ℕ → WalkView → ℤ → ℕ

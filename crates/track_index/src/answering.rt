@@ -3,6 +3,7 @@ ghost use Rattle.step_count.specs.Reads.{ReadsWithin};
 ghost use Rattle.track_types.specs.ByFilter.{path_of};
 ghost use Rattle.track_types.specs.declared.question.Question.TheVariants as asked;
 ghost use Rattle.snapshots.specs.IndexCost.{path_cost};
+ghost use Rattle.snapshots.specs.Needs.{needs_between};
 
 use crate::index::IndexRef;
 use crate::path_walk::PathWalk;
@@ -66,6 +67,8 @@ impl<'a> Answerer for IndexRef<'a> {
             walk.reads ≤ cost_of self.entry.index.now (asked.Path object from to)) }
         ensures needs { IfOk result (λ walk.
             ReadsWithin (path_needs walk) (needs_of self.entry.index.now (asked.Path object from to))) }
+        ensures within { IfOk result (λ walk.
+            ReadsWithin (path_needs walk) (needs_between self.entry.index.now from to)) }
         ensures budget_to { IfOk result (λ walk. (instant : ℤ) →
             path_reads_to walk instant ≤ path_cost self.entry.index.now object from instant) }
         ensures in_time { IfOk result (λ walk. (instant : ℤ) → path_reads_past walk instant

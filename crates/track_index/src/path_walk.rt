@@ -63,7 +63,7 @@ impl<'a> PathWalk<'a> {
         ensures budget { IfOk result (λ walk. walk.reads
             ≡ cost_between index.now object from to periods.next periods.end) }
         ensures needs { IfOk result (λ walk.
-            ReadsWithin (path_needs walk) (left_needs periods.next periods.end)) }
+            ReadsWithin (path_needs walk) (left_needs index.now object periods.next periods.end)) }
         ensures budget_to { IfOk result (λ walk. (instant : ℤ) → path_reads_to walk instant
             ≡ cost_until index.now object from instant periods.next periods.end) }
     {

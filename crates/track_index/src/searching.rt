@@ -30,7 +30,7 @@ pub(crate) fn slice_of<L: Reads>(
 ) -> Result<Vec<Sighting>, Memory>
     requires instant { IsAsked instant }
     requires region { IsRegionAsked region.now }
-    requires may { ReadsWithin (needs_at stores.now.frame instant) L.may }
+    requires may { ReadsWithin (needs_at stores.now instant) L.may }
     ensures ok { IfOk result (λ found.
         found.items ≡ sightings_of (chart_in stores.now).rows instant region.now) }
     ensures cost { steps.new ≤ steps.old + slice_cost stores.now instant region.now }
@@ -69,7 +69,7 @@ pub(crate) fn interval_of<L: Reads>(
     requires from { IsAsked window.0 }
     requires to { IsAsked window.1 }
     requires region { IsRegionAsked region.now }
-    requires may { ReadsWithin (needs_between stores.now.frame window.0 window.1) L.may }
+    requires may { ReadsWithin (needs_between stores.now window.0 window.1) L.may }
     ensures ok { IfOk result (λ found.
         found.items ≡ hits_of (chart_in stores.now).rows window.0 window.1 region.now) }
     ensures cost { steps.new

@@ -33,8 +33,8 @@ neither false other more less = refl
 pub open-requires-clause-rule : goal.open-requires-clause-rule
 open-requires-clause-rule g c = sym c.node-one.ensures.opens ∙ c.opens_first.ensures.yes c.if-opens_first.true
 
-pub returns-then-window-one : goal.returns-then-window-one
-returns-then-window-one g c =
+pub returns-then-window-one-clause-turned : goal.returns-then-window-one-clause-turned
+returns-then-window-one-clause-turned g c =
     let tells = c.node-one.ensures.tells in
     let told = c.node-other.ensures.tells in
     let to : to_z w64 (of_z w64 c.args.window.now.to) ≡ c.args.window.now.to = omega (arith, ints) in
@@ -49,9 +49,9 @@ returns-then-window-one g c =
           over-right _ _ _ _ _ tells told _ over _ (omega arith)
     ]
 
-pub returns-then-more : goal.returns-then-more
-returns-then-more g c =
-    let apart = sym (close_is g (goal.at.returns-then-more g c).After-may_meet) ∙ c.if-not-may_meet.true in
+pub returns-then-more-clause-turned : goal.returns-then-more-clause-turned
+returns-then-more-clause-turned g c =
+    let apart = sym (close_is g (goal.at.returns-then-more-clause-turned g c).After-may_meet) ∙ c.if-not-may_meet.true in
     let tells = c.node-one.ensures.tells in
     let told = c.node-other.ensures.tells in
     elim c.if-one-other.branch [
@@ -70,9 +70,9 @@ returns-then-more g c =
           w.pass-more-else-one-other.ensures.cost)
     ]
 
-pub returns-else-more : goal.returns-else-more
-returns-else-more g c =
-    let apart = sym (close_is g (goal.at.returns-else-more g c).After-may_meet) ∙ c.if-not-may_meet.true in
+pub returns-else-more-clause-turned : goal.returns-else-more-clause-turned
+returns-else-more-clause-turned g c =
+    let apart = sym (close_is g (goal.at.returns-else-more-clause-turned g c).After-may_meet) ∙ c.if-not-may_meet.true in
     let tells = c.node-one.ensures.tells in
     let told = c.node-other.ensures.tells in
     elim c.if-one-other.branch [
@@ -91,21 +91,21 @@ returns-else-more g c =
           w.pass-more-else-one-other.ensures.cost)
     ]
 
-pub returns-then-opens_first : goal.returns-then-opens_first
-returns-then-opens_first g c =
-    let close = sym (close_is g (goal.at.returns-then-opens_first g c).After-may_meet) ∙ c.if-not-may_meet.false in
+pub returns-then-opens_first-clause-turned : goal.returns-then-opens_first-clause-turned
+returns-then-opens_first-clause-turned g c =
+    let close = sym (close_is g (goal.at.returns-then-opens_first-clause-turned g c).After-may_meet) ∙ c.if-not-may_meet.false in
     opened-left _ _ _ _ _ c.node-one.ensures.tells c.node-other.ensures.tells _ close _ _ c.open.ensures.opened
     c.open.ensures.cost
 
-pub returns-then-other : goal.returns-then-other
-returns-then-other g c =
-    let close = sym (close_is g (goal.at.returns-then-other g c).After-may_meet) ∙ c.if-not-may_meet.false in
+pub returns-then-other-clause-turned : goal.returns-then-other-clause-turned
+returns-then-other-clause-turned g c =
+    let close = sym (close_is g (goal.at.returns-then-other-clause-turned g c).After-may_meet) ∙ c.if-not-may_meet.false in
     opened-right _ _ _ _ _ c.node-one.ensures.tells c.node-other.ensures.tells _ close _ _ c.open-then-other.ensures.opened
     c.open-then-other.ensures.cost
 
-pub returns : goal.returns
-returns g c =
-    let close = sym (close_is g (goal.at.returns g c).After-may_meet) ∙ c.if-not-may_meet.false in
+pub returns-clause-turned : goal.returns-clause-turned
+returns-clause-turned g c =
+    let close = sym (close_is g (goal.at.returns-clause-turned g c).After-may_meet) ∙ c.if-not-may_meet.false in
     let right : c.args.right.now.opens ≡ false = sym c.node-other.ensures.opens ∙ c.if-other.false in
     let left : c.args.left.now.opens ≡ false = sym c.node-one.ensures.opens
     ∙ neither _ _ (c.opens_first.ensures.no c.if-opens_first.false) c.if-other.false in
@@ -118,3 +118,27 @@ returns g c =
       rw (end, c.node-one.ensures.cell, c.node-other.ensures.cell) refl,
       found-both _ _ _ _ _ c.node-one.ensures.tells c.node-other.ensures.tells _ close left right _ (omega arith),
     )
+
+pub returns-then-more-clause-places : goal.returns-then-more-clause-places
+returns-then-more-clause-places g c = elim c.if-one-other.branch [
+  | then-one-other w ↦ rw w.left-is w.pass-more.ensures.places
+  | else-one-other w ↦ rw w.left-is refl
+]
+
+pub returns-then-more-clause-others : goal.returns-then-more-clause-others
+returns-then-more-clause-others g c = elim c.if-one-other.branch [
+  | then-one-other w ↦ rw w.right-is refl
+  | else-one-other w ↦ rw w.right-is w.pass-more-else-one-other.ensures.places
+]
+
+pub returns-else-more-clause-places : goal.returns-else-more-clause-places
+returns-else-more-clause-places g c = elim c.if-one-other.branch [
+  | then-one-other w ↦ rw w.left-is w.pass-more.ensures.places
+  | else-one-other w ↦ rw w.left-is refl
+]
+
+pub returns-else-more-clause-others : goal.returns-else-more-clause-others
+returns-else-more-clause-others g c = elim c.if-one-other.branch [
+  | then-one-other w ↦ rw w.right-is refl
+  | else-one-other w ↦ rw w.right-is w.pass-more-else-one-other.ensures.places
+]

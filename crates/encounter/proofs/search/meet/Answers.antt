@@ -6,7 +6,7 @@ use Rattle.std.proofs.lemmas.Result.{IfOk-weaker}
 use Rattle.snapshots.specs.SoundParts.{IsValid}
 use Rattle.object_track.specs.Met.{AreMet}
 use Rattle.object_track.proofs.ChartLemmas.{index_in-some}
-use Rattle.track_index.proofs.NeedsLemmas.{left-met}
+use Rattle.encounter.proofs.NeedsLemmas.{pair-met}
 use Rattle.encounter.proofs.SeekingLemmas.{meet_cost_between-met, meet_cost_until-met, meeting_of-known, meeting_of-unknown_left, meeting_of-unknown_right}
 use Rattle.encounter.proofs.search.meet.Given.{Over}
 use Rattle.encounter.proofs.search.meet.Goals as goal
@@ -47,8 +47,9 @@ are_met g c =
 
 pub meet_in_periods-requires-clause-may : goal.meet_in_periods-requires-clause-may
 meet_in_periods-requires-clause-may g c = λ read needed.
-    c.requires.may read (left-met _ _ _ _ _ (are_met g (goal.at.meet_in_periods-requires-clause-may g c).After-met-periods)
-    read needed)
+    c.requires.may read (pair-met c.args.stores.now c.args.left c.args.right c.in-Some.one c.in-Some-index_of.other
+    c.args.window.now.from c.args.window.now.to _ _ c.in-Some.ensures.value c.in-Some-index_of.ensures.value
+    (are_met g (goal.at.meet_in_periods-requires-clause-may g c).After-met-periods) read needed)
 
 pub returns-clause-ok : goal.returns-clause-ok
 returns-clause-ok g c =

@@ -1,8 +1,11 @@
-use Rattle.std.proofs.Common.{List, sym, ap, ◌∙◌}
+use Rattle.std.proofs.Common.{ℕ, List, sym, subst, ap, ◌∙◌}
 use Rattle.std.specs.Option.{option_map}
 use Rattle.track_types.specs.Meeting.{meeting_at}
 use Rattle.track_types.specs.declared.stop.Stop.{Stop}
+use Rattle.step_count.specs.Reads.{ReadsWithin}
 use Rattle.rule_store.specs.Log.{log_of}
+use Rattle.rule_store.specs.Needs.{log_needs}
+use Rattle.snapshots.specs.Needs.{block_places}
 use Rattle.snapshots.specs.Parts.{stops_in}
 use Rattle.encounter.specs.Side.{remaining}
 use Rattle.encounter.specs.Window.{meeting_among}
@@ -24,6 +27,16 @@ returns-in_default-find-clause-ok g c =
     sym (ap (option_map meeting_at) (ap (meeting_among window.from window.to window.reach lefts)
     (stops-absent c.args.stores.now c.args.period c.args.places.right
     c.in_default-find.ensures.value) ∙ meeting_among-right window.from window.to window.reach lefts))
+
+pub first_meeting-requires-clause-may : goal.first_meeting-requires-clause-may
+first_meeting-requires-clause-may g c =
+    let here = c.in_ok-left.ensures.places ∙ c.new-mine.ensures.places ∙ ap block_places c.in-Some.ensures.value in
+    subst (λ (places : ℕ × ℕ). ReadsWithin (log_needs places) g.L.Reads.may) (sym here) c.requires.log
+
+pub first_meeting-requires-clause-also : goal.first_meeting-requires-clause-also
+first_meeting-requires-clause-also g c =
+    let here = c.in_ok-right.ensures.places ∙ c.new-theirs.ensures.places ∙ ap block_places c.in-Some-find.ensures.value in
+    subst (λ (places : ℕ × ℕ). ReadsWithin (log_needs places) g.L.Reads.may) (sym here) c.requires.also
 
 pub returns-clause-ok : goal.returns-clause-ok
 returns-clause-ok g c =

@@ -1,9 +1,14 @@
-use Rattle.std.proofs.Common.{refl, sym, ap, ◌∙◌, arith}
+use Rattle.std.proofs.Common.{Some, refl, sym, ap, ◌∙◌, arith}
 use Rattle.std.specs.Option.{option_map}
 use Rattle.track_types.specs.Meeting.{meeting_at}
 use Rattle.snapshots.specs.SoundParts.{IsValid}
 use Rattle.step_count.specs.Reads.{ofPeriod}
-use Rattle.snapshots.proofs.NeedsLemmas.{within-logs}
+use Rattle.snapshots.specs.Needs.{block_places, is_of_pair}
+use Rattle.snapshots.specs.Parts.{snapshot_in}
+use Rattle.snapshots.specs.View.{block_of}
+use Rattle.snapshots.proofs.NeedsLemmas.{may-log}
+use Rattle.track_index.specs.Path.{is_left}
+use Rattle.encounter.proofs.NeedsLemmas.{pair-first, pair-second}
 use Rattle.track_index.proofs.NeedsLemmas.{is_left-within}
 use Rattle.encounter.proofs.SeekingLemmas.{seeking-cost, seeking-ends, seeking-found, seeking-next, seeking-none}
 use Rattle.encounter.proofs.search.meet_in_periods.Goals as goal
@@ -52,8 +57,29 @@ meet_in_period-requires-clause-may g c =
     c.requires.may (ofPeriod c.loop-period.period) (is_left-within c.args.periods.next c.args.periods.end
     c.loop-period.period c.loop-period.invariant.1 (omega (arith, c.loop-period-test.true)))
 
-pub meet_in_period-requires-clause-logs : goal.meet_in_period-requires-clause-logs
-meet_in_period-requires-clause-logs g c = within-logs g.L.Reads.may _ c.requires.may
+pub meet_in_period-requires-clause-log : goal.meet_in_period-requires-clause-log
+meet_in_period-requires-clause-log g c =
+    let parts = c.args.stores.now in
+    let places = c.args.places in
+    let periods = c.args.periods in
+    let period = c.loop-period.period in
+    may-log g.L.Reads.may parts.frame (is_left periods.next periods.end) (is_of_pair parts (Some places.left) (Some places.right))
+    c.requires.may period (omega (arith, c.loop-period-test.true, c.requires.periods))
+    (is_left-within periods.next periods.end period c.loop-period.invariant.1 (omega (arith, c.loop-period-test.true)))
+    (block_places (block_of (snapshot_in parts period) places.left))
+    (λ place is. pair-first parts places.left places.right period place is)
+
+pub meet_in_period-requires-clause-also : goal.meet_in_period-requires-clause-also
+meet_in_period-requires-clause-also g c =
+    let parts = c.args.stores.now in
+    let places = c.args.places in
+    let periods = c.args.periods in
+    let period = c.loop-period.period in
+    may-log g.L.Reads.may parts.frame (is_left periods.next periods.end) (is_of_pair parts (Some places.left) (Some places.right))
+    c.requires.may period (omega (arith, c.loop-period-test.true, c.requires.periods))
+    (is_left-within periods.next periods.end period c.loop-period.invariant.1 (omega (arith, c.loop-period-test.true)))
+    (block_places (block_of (snapshot_in parts period) places.right))
+    (λ place is. pair-second parts places.left places.right period place is)
 
 pub returns-clause-ok : goal.returns-clause-ok
 returns-clause-ok g c =

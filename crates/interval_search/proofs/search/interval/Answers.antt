@@ -7,9 +7,10 @@ use Rattle.track_types.specs.declared.frame.Frame.{Frame}
 use Rattle.track_types.specs.declared.hit.Hit.{Hit}
 use Rattle.track_types.specs.declared.region.Region.{Region}
 use Rattle.track_types.specs.Region.{intersects_region}
-use Rattle.snapshots.proofs.NeedsLemmas.{within-logs, within-period}
+use Rattle.snapshots.specs.Needs.{is_of_logs, log_places}
+use Rattle.snapshots.proofs.NeedsLemmas.{may-log, within-period}
 use Rattle.snapshots.specs.IndexCost.{is_met}
-use Rattle.snapshots.specs.Parts.{chart_in}
+use Rattle.snapshots.specs.Parts.{chart_in, snapshot_in}
 use Rattle.snapshots.specs.SoundParts.{IsValid}
 use Rattle.track_types.specs.Frame.{grid_of}
 use Rattle.interval_search.specs.Cost.{interval_cost}
@@ -54,9 +55,9 @@ invariant_of-sought g c = record { known = omega (arith, c.loop-period-test.true
 pub look-requires-clause-first : goal.look-requires-clause-first
 look-requires-clause-first g c = c.loop-period.invariant.first
 
--- the period is met by the window, so that it may be read
-allowed : (g : Over) (c : After-blocks-blocks g) → IsTrue (g.L.Reads.may (ofPeriod c.loop-period.period))
-allowed g c =
+-- the period is met by the window
+met : (g : Over) (c : After-blocks-blocks g) → IsTrue (is_met c.args.stores.now.frame c.args.from c.args.to c.loop-period.period)
+met g c =
     let frame : Frame = c.args.stores.now.frame in
     let low : ℤ = to_z w64 (of_z w64 c.args.from) in
     let high : ℤ = to_z w64 (of_z w64 c.args.to) in
@@ -64,17 +65,22 @@ allowed g c =
     let to : high ≡ c.args.to = omega (arith, ints) in
     let met : is_met frame low high c.loop-period.period ≡ true =
     c.met-periods.ensures.met c.loop-period.period c.loop-period.invariant.least (omega (arith, c.loop-period-test.true)) in
-    c.requires.may (ofPeriod c.loop-period.period)
-    (subst (λ z. is_met frame c.args.from z c.loop-period.period ≡ true) to
-    (subst (λ z. is_met frame z high c.loop-period.period ≡ true) from met))
+    subst (λ z. is_met frame c.args.from z c.loop-period.period ≡ true) to
+    (subst (λ z. is_met frame z high c.loop-period.period ≡ true) from met)
 
 pub look-requires-clause-may : goal.look-requires-clause-may
 look-requires-clause-may g c = λ read needed.
-    within-period g.L.Reads.may c.loop-period.period (allowed g (goal.at.look-requires-clause-may g c).After-blocks-blocks) read
+    within-period g.L.Reads.may c.loop-period.period
+    (c.requires.may (ofPeriod c.loop-period.period) (met g (goal.at.look-requires-clause-may g c).After-blocks-blocks)) read
     (c.blocks-blocks.ensures.needs read needed)
 
 pub look-requires-clause-logs : goal.look-requires-clause-logs
-look-requires-clause-logs g c = within-logs g.L.Reads.may _ c.requires.may
+look-requires-clause-logs g c =
+    let parts = c.args.stores.now in
+    may-log g.L.Reads.may parts.frame (is_met parts.frame c.args.from c.args.to) (is_of_logs parts) c.requires.may
+    c.loop-period.period (omega (arith, c.loop-period-test.true, c.met-periods.ensures.within))
+    (met g (goal.at.look-requires-clause-logs g c).After-blocks-blocks)
+    (log_places (snapshot_in parts c.loop-period.period)) (λ place is. is)
 
 pub loop-period-preserved : goal.loop-period-preserved
 loop-period-preserved g c =

@@ -48,7 +48,7 @@ hit_after-requires g c =
     let same : now.rules ≡ rules = c.begin.ensures.rules ∙ c.in_ok-pending.ensures.rules ∙ c.rules.ensures in
     let sound : AreRules rules = subst AreRules same c.begin.ensures.sound in
     let way = IsWayOf-placed rules c.args.start log sound (length-log_of c.args.view sound) c.requires.placed in
-    rw (same, c.begin.ensures.symbols) (record { way = way; window = omega (arith, ints, c.if-to-from.false); may = c.requires.may })
+    rw (same, c.begin.ensures.symbols, c.begin.ensures.places) (record { way = way; window = omega (arith, ints, c.if-to-from.false); may = c.requires.may })
 
 pub returns-clause-value : goal.returns-clause-value
 returns-clause-value g c =

@@ -56,6 +56,7 @@ loop-at-init g c =
           (omega (arith, touching));
       drawing = begun region has_hull first _ from to c.args.start c.args.steps.now c.requires.way window (omega (arith, all));
       few = omega arith;
+      places = refl;
     }
 
 pub returns-in_err-entry-clause-value : goal.returns-in_err-entry-clause-value
@@ -102,7 +103,7 @@ loop-at-preserved-then-next-from g c =
           inl (outside-along c.args.test.now.region c.loop-at.at.cell _ c.in_ok-entry.entry.hull (turn-hull its)
           (sym w.touches.ensures ∙ w.if-not-touches.true))
     ] in
-    record { walking = turn-past c.args.test.now.region its passed; drawing = turn-past c.args.test.now.region draw passed; few = c.loop-at.invariant.few }
+    record { walking = turn-past c.args.test.now.region its passed; drawing = turn-past c.args.test.now.region draw passed; few = c.loop-at.invariant.few; places = c.next.ensures.places ∙ c.loop-at.invariant.places }
 
 -- where its entry is not passed over, the window has instants after it and up to its end, its box touches the region, and
 -- so it has one
@@ -182,6 +183,9 @@ returns-then-not-is_rule-clause-budget g c =
     let to : word c.args.to ≡ c.args.to = omega (arith, ints) in
     omega (arith, rw (from, to) at (turn-reads its))
 
+pub open-requires-clause-may : goal.open-requires-clause-may
+open-requires-clause-may g c = rw (c.next.ensures.places ∙ c.loop-at.invariant.places) c.requires.may
+
 pub loop-at-smaller : goal.loop-at-smaller
 loop-at-smaller g c =
     let at = goal.at.loop-at-smaller g c in
@@ -204,7 +208,12 @@ loop-at-preserved g c =
       drawing = turn-opened draw its.0 its.1 its.3 c.next.ensures.sound rule c.open.new.self c.open.new.steps
           c.open.ensures.rules c.open.ensures.symbols c.open.ensures.unread c.open.ensures.cost;
       few = omega (arith, c.if-opened-ge-FORGOTTEN.false);
+      places = c.open.ensures.places ∙ c.next.ensures.places ∙ c.loop-at.invariant.places;
     }
+
+pub hit_beyond-requires-clause-may : goal.hit_beyond-requires-clause-may
+hit_beyond-requires-clause-may g c =
+    rw (c.open.ensures.places ∙ c.next.ensures.places ∙ c.loop-at.invariant.places) c.requires.may
 
 -- the search goes on from where it has come
 pub hit_beyond-requires-clause-way : goal.hit_beyond-requires-clause-way

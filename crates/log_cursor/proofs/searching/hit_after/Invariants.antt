@@ -1,4 +1,4 @@
-use Rattle.std.proofs.Common.{◌+◌, ◌<◌}
+use Rattle.std.proofs.Common.{◌≡◌, ◌+◌, ◌<◌}
 use Rattle.log_cursor.specs.Touching.{touches_at, touching_left}
 use Rattle.log_cursor.specs.Turn.{IsWalking, has_hull, is_hit, turns_left}
 use Rattle.log_cursor.specs.Walk.{opened_left, stops_left}
@@ -18,6 +18,7 @@ invariant-loop-at g l =
           (l.fn.steps + (first.unread + opened_left first.rules l.fn.from l.fn.to l.fn.start first.symbols))
           l.fn.from l.fn.to l.pending l.at l.steps;
       few : l.opened < 64;
+      places : l.pending.places ≡ first.places;
     }
 
 abbrev pub decreases-loop-at : goal.decreases-loop-at

@@ -50,25 +50,27 @@ loop-at-init g c =
     let to = word c.args.to in
     let window : from ≤ℤ to = omega (arith, ints, c.requires.window) in
     let touching = touching_left-count first.rules from to region c.args.start first.symbols in
-    let all = opened_left-count first.rules from to c.args.start first.symbols in
-    record {
-      walking = begun region (touches_at region) first _ from to c.args.start c.args.steps.now c.requires.way window
-          (omega (arith, touching));
-      drawing = begun region has_hull first _ from to c.args.start c.args.steps.now c.requires.way window (omega (arith, all));
-      gone = AreGoneOver-none first.rules region from c.new-opened.result first.symbols c.args.start c.new-opened.ensures;
-    }
+    let all = opened_left-count first.rules from to c.args.start first.symbols in (
+      record {
+        walking = begun region (touches_at region) first _ from to c.args.start c.args.steps.now c.requires.way window
+            (omega (arith, touching));
+        drawing = begun region has_hull first _ from to c.args.start c.args.steps.now c.requires.way window (omega (arith, all));
+        gone = AreGoneOver-none first.rules region from c.new-opened.result first.symbols c.args.start c.new-opened.ensures;
+      },
+      refl,
+    )
 
 pub returns-in_err-entry-clause-value : goal.returns-in_err-entry-clause-value
 returns-in_err-entry-clause-value g c =
     let from : word c.args.from ≡ c.args.from = omega (arith, ints) in
     let to : word c.args.to ≡ c.args.to = omega (arith, ints) in
-    rw c.from_residual.ensures (rw (from, to) at (sym (walking-end c.loop-at.invariant.walking c.in_err-entry.ensures.none)))
+    rw c.from_residual.ensures (rw (from, to) at (sym (walking-end c.loop-at.invariant.0.walking c.in_err-entry.ensures.none)))
 
 pub after-next-requires : goal.after-next-requires
-after-next-requires g c = (taken-next c.loop-at.invariant.walking c.in_ok-entry.ensures.found).start_is
+after-next-requires g c = (taken-next c.loop-at.invariant.0.walking c.in_ok-entry.ensures.found).start_is
 
 pub touches-requires : goal.touches-requires
-touches-requires g c = taken-near c.loop-at.invariant.walking c.in_ok-entry.ensures.found
+touches-requires g c = taken-near c.loop-at.invariant.0.walking c.in_ok-entry.ensures.found
 
 -- the turn in which a symbol was taken off
 turn : (g : Over) (c : After-after-next g) {may : Cell → Option CellBox → Bool} {rules : RulesView} {stops : List Stop}
@@ -86,24 +88,26 @@ turn g c walking = record {
 
 pub loop-at-smaller-then-next-from : goal.loop-at-smaller-then-next-from
 loop-at-smaller-then-next-from g c =
-    turn-fewer (turn g (goal.at.loop-at-smaller-then-next-from g c).After-after-next c.loop-at.invariant.walking)
+    turn-fewer (turn g (goal.at.loop-at-smaller-then-next-from g c).After-after-next c.loop-at.invariant.0.walking)
 
 pub loop-at-preserved-then-next-from : goal.loop-at-preserved-then-next-from
 loop-at-preserved-then-next-from g c =
     let at = (goal.at.loop-at-preserved-then-next-from g c).After-after-next in
-    let its = turn g at c.loop-at.invariant.walking in
-    let draw = turn g at c.loop-at.invariant.drawing in
-    let gone = c.loop-at.invariant.gone in
-    turn-passed its draw gone (elim c.then-next-from.branch [
-      | then-next-from-via-then-next-from w ↦
-          let ended : c.after-next.result.instant <ℤ word c.args.from = omega (arith, ints, w.if-next-from.true) in
-          inr ended
-      | then-next-from-via-else-next-from+then-not-touches w ↦
-          inl (outside-along c.args.test.now.region c.loop-at.at.cell _ c.in_ok-entry.entry.hull (turn-hull its)
-          (sym w.touches.ensures ∙ w.if-not-touches.true))
-      | then-next-from-via-else-next-from+else-not-touches+then-has w ↦
-          inl (turn-again its draw gone (w.has.ensures w.if-has.true))
-    ])
+    let its = turn g at c.loop-at.invariant.0.walking in
+    let draw = turn g at c.loop-at.invariant.0.drawing in
+    let gone = c.loop-at.invariant.0.gone in (
+      turn-passed its draw gone (elim c.then-next-from.branch [
+        | then-next-from-via-then-next-from w ↦
+            let ended : c.after-next.result.instant <ℤ word c.args.from = omega (arith, ints, w.if-next-from.true) in
+            inr ended
+        | then-next-from-via-else-next-from+then-not-touches w ↦
+            inl (outside-along c.args.test.now.region c.loop-at.at.cell _ c.in_ok-entry.entry.hull (turn-hull its)
+            (sym w.touches.ensures ∙ w.if-not-touches.true))
+        | then-next-from-via-else-next-from+else-not-touches+then-has w ↦
+            inl (turn-again its draw gone (w.has.ensures w.if-has.true))
+      ]),
+      c.next.ensures.places ∙ c.loop-at.invariant.1,
+    )
 
 -- where its entry is not passed over, the window has instants after it and up to its end, its box touches the region, and
 -- so it has one
@@ -124,7 +128,7 @@ pub returns-then-not-is_rule-clause-value : goal.returns-then-not-is_rule-clause
 returns-then-not-is_rule-clause-value g c =
     let at = goal.at.returns-then-not-is_rule-clause-value g c in
     let its = within g at.After-is_rule in
-    let turn = turn g at.After-after-next c.loop-at.invariant.walking in
+    let turn = turn g at.After-after-next c.loop-at.invariant.0.walking in
     let region = c.args.test.now.region in
     let here = c.after-next.result in
     let from : word c.args.from ≡ c.args.from = omega (arith, ints) in
@@ -141,7 +145,7 @@ pub returns-then-not-is_rule-clause-left : goal.returns-then-not-is_rule-clause-
 returns-then-not-is_rule-clause-left g c =
     let at = goal.at.returns-then-not-is_rule-clause-left g c in
     let its = within g at.After-is_rule in
-    let turn = turn g at.After-after-next c.loop-at.invariant.drawing in
+    let turn = turn g at.After-after-next c.loop-at.invariant.0.drawing in
     let first = c.args.pending.now in
     let here = c.after-next.result in
     let region = c.args.test.now.region in
@@ -167,27 +171,30 @@ returns-then-not-is_rule-clause-left g c =
 
 pub returns-then-not-is_rule-clause-rules : goal.returns-then-not-is_rule-clause-rules
 returns-then-not-is_rule-clause-rules g c =
-    turn-rules (turn g (goal.at.returns-then-not-is_rule-clause-rules g c).After-after-next c.loop-at.invariant.walking)
+    turn-rules (turn g (goal.at.returns-then-not-is_rule-clause-rules g c).After-after-next c.loop-at.invariant.0.walking)
 
 pub returns-then-not-is_rule-clause-cost : goal.returns-then-not-is_rule-clause-cost
 returns-then-not-is_rule-clause-cost g c =
-    let its = turn g (goal.at.returns-then-not-is_rule-clause-cost g c).After-after-next c.loop-at.invariant.walking in
+    let its = turn g (goal.at.returns-then-not-is_rule-clause-cost g c).After-after-next c.loop-at.invariant.0.walking in
     let from : word c.args.from ≡ c.args.from = omega (arith, ints) in
     let to : word c.args.to ≡ c.args.to = omega (arith, ints) in
     omega (arith, rw (from, to) at (turn-reads its))
 
 pub returns-then-not-is_rule-clause-budget : goal.returns-then-not-is_rule-clause-budget
 returns-then-not-is_rule-clause-budget g c =
-    let its = turn g (goal.at.returns-then-not-is_rule-clause-budget g c).After-after-next c.loop-at.invariant.drawing in
+    let its = turn g (goal.at.returns-then-not-is_rule-clause-budget g c).After-after-next c.loop-at.invariant.0.drawing in
     let from : word c.args.from ≡ c.args.from = omega (arith, ints) in
     let to : word c.args.to ≡ c.args.to = omega (arith, ints) in
     omega (arith, rw (from, to) at (turn-reads its))
+
+pub open-requires-clause-may : goal.open-requires-clause-may
+open-requires-clause-may g c = rw (c.next.ensures.places ∙ c.loop-at.invariant.1) c.requires.may
 
 pub loop-at-smaller : goal.loop-at-smaller
 loop-at-smaller g c =
     let at = goal.at.loop-at-smaller g c in
     let its = within g at.After-is_rule in
-    turn-opened-fewer (turn g at.After-after-next c.loop-at.invariant.walking) its.0 its.1 its.2 c.next.ensures.sound
+    turn-opened-fewer (turn g at.After-after-next c.loop-at.invariant.0.walking) its.0 its.1 its.2 c.next.ensures.sound
     (leb-true _ _ (sym c.is_rule.ensures ∙ c.if-not-is_rule.false)) c.open.new.self c.open.new.steps
     c.open.ensures.rules c.open.ensures.symbols c.open.ensures.unread c.open.ensures.cost
 
@@ -195,29 +202,31 @@ pub loop-at-preserved : goal.loop-at-preserved
 loop-at-preserved g c =
     let at = goal.at.loop-at-preserved g c in
     let its = within g at.After-is_rule in
-    let turned = turn g at.After-after-next c.loop-at.invariant.walking in
-    let draw = turn g at.After-after-next c.loop-at.invariant.drawing in
+    let turned = turn g at.After-after-next c.loop-at.invariant.0.walking in
+    let draw = turn g at.After-after-next c.loop-at.invariant.0.drawing in
     let rule : length c.next.new.self.rules.alphabet ≤ c.in_ok-entry.entry.symbol =
-    leb-true _ _ (sym c.is_rule.ensures ∙ c.if-not-is_rule.false) in
-    record {
-      walking = turn-opened turned its.0 its.1 its.2 c.next.ensures.sound rule c.open.new.self c.open.new.steps
-          c.open.ensures.rules c.open.ensures.symbols c.open.ensures.unread c.open.ensures.cost;
-      drawing = turn-opened draw its.0 its.1 its.3 c.next.ensures.sound rule c.open.new.self c.open.new.steps
-          c.open.ensures.rules c.open.ensures.symbols c.open.ensures.unread c.open.ensures.cost;
-      gone = turn-kept turned draw c.loop-at.invariant.gone c.next.ensures.sound rule c.open.new.self.symbols
-          c.open.ensures.symbols c.if-from-at.opened (λ opened has. elim c.if-from-at.branch [
-            | then-from-at w ↦
-                let within : word c.args.from ≤ℤ c.loop-at.at.instant = omega (arith, ints, w.if-from-at.true) in
-                elim (w.add.ensures opened (subst (λ table. Has table opened) w.opened-is has)) [
-                  | inl new ↦ inl (new, within)
-                  | inr before ↦ inr before
-                ]
-            | else-from-at w ↦ inr (subst (λ table. Has table opened) w.opened-is has)
-          ]);
-    }
+    leb-true _ _ (sym c.is_rule.ensures ∙ c.if-not-is_rule.false) in (
+      record {
+        walking = turn-opened turned its.0 its.1 its.2 c.next.ensures.sound rule c.open.new.self c.open.new.steps
+            c.open.ensures.rules c.open.ensures.symbols c.open.ensures.unread c.open.ensures.cost;
+        drawing = turn-opened draw its.0 its.1 its.3 c.next.ensures.sound rule c.open.new.self c.open.new.steps
+            c.open.ensures.rules c.open.ensures.symbols c.open.ensures.unread c.open.ensures.cost;
+        gone = turn-kept turned draw c.loop-at.invariant.0.gone c.next.ensures.sound rule c.open.new.self.symbols
+            c.open.ensures.symbols c.if-from-at.opened (λ opened has. elim c.if-from-at.branch [
+              | then-from-at w ↦
+                  let within : word c.args.from ≤ℤ c.loop-at.at.instant = omega (arith, ints, w.if-from-at.true) in
+                  elim (w.add.ensures opened (subst (λ table. Has table opened) w.opened-is has)) [
+                    | inl new ↦ inl (new, within)
+                    | inr before ↦ inr before
+                  ]
+              | else-from-at w ↦ inr (subst (λ table. Has table opened) w.opened-is has)
+            ]);
+      },
+      c.open.ensures.places ∙ c.next.ensures.places ∙ c.loop-at.invariant.1,
+    )
 
 pub returns-clause-value : goal.returns-clause-value
 returns-clause-value g c =
     let from : word c.args.from ≡ c.args.from = omega (arith, ints) in
     let to : word c.args.to ≡ c.args.to = omega (arith, ints) in
-    rw (from, to) at (sym (walking-over c.loop-at.invariant.walking (omega (arith, ints, c.loop-at-test.false))))
+    rw (from, to) at (sym (walking-over c.loop-at.invariant.0.walking (omega (arith, ints, c.loop-at-test.false))))

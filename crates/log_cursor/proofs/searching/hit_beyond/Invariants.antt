@@ -1,4 +1,4 @@
-use Rattle.std.proofs.Common.{◌+◌}
+use Rattle.std.proofs.Common.{◌≡◌, ◌+◌}
 use Rattle.log_cursor.specs.Opened.{IsSearching}
 use Rattle.log_cursor.specs.Touching.{touches_at, touching_left}
 use Rattle.log_cursor.specs.Turn.{turns_left}
@@ -10,11 +10,11 @@ abbrev pub invariant-loop-at : goal.invariant-loop-at
 invariant-loop-at g l =
     let first = l.fn.pending in
     let region = l.fn.test.region in
-    IsSearching region first.rules
+    (IsSearching region first.rules
     (stops_left first.rules l.fn.from l.fn.to l.fn.start first.symbols)
     (l.fn.steps + (first.unread + touching_left first.rules l.fn.from l.fn.to region l.fn.start first.symbols))
     (l.fn.steps + (first.unread + opened_left first.rules l.fn.from l.fn.to l.fn.start first.symbols)) l.fn.from l.fn.to
-    l.opened l.pending l.at l.steps
+    l.opened l.pending l.at l.steps) × (l.pending.places ≡ first.places)
 
 abbrev pub decreases-loop-at : goal.decreases-loop-at
 decreases-loop-at g l =

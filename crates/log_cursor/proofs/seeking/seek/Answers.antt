@@ -4,6 +4,8 @@ use Rattle.rule_store.specs.Flaws.{AreRules}
 use Rattle.rule_store.specs.View.{RulesView}
 use Rattle.rule_store.specs.Expansion.{depth_of}
 use Rattle.rule_store.specs.Log.{log_of, stops_after}
+use Rattle.rule_store.specs.Needs.{places_of}
+use Rattle.rule_store.proofs.NeedsLemmas.{within-rules}
 use Rattle.log_cursor.specs.Seek.{cell_among}
 use Rattle.log_cursor.specs.declared.start.Start.{Start}
 use Rattle.log_cursor.proofs.StopLemmas.{word}
@@ -55,7 +57,7 @@ cell_within-requires g c =
       way = seeking-way its;
       after = c.loop-i.invariant.after;
       within = omega (arith, ints, leads, c.if-instant-next.true);
-      may = c.requires.may;
+      may = within-rules g.L.Reads.may (places_of c.args.view) c.requires.may;
     })
 
 pub returns-then-instant-next-clause-value : goal.returns-then-instant-next-clause-value

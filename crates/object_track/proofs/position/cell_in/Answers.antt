@@ -1,7 +1,10 @@
-use Rattle.std.proofs.Common.{◌≡◌, ◌∙◌, w64, to_z, of_z, arith, ap, sym}
+use Rattle.std.proofs.Common.{◌≡◌, ℕ, ◌∙◌, w64, to_z, of_z, arith, ap, subst, sym}
 use Rattle.std.proofs.lemmas.Int.{ints}
+use Rattle.step_count.specs.Reads.{ReadsWithin}
 use Rattle.rule_store.specs.Log.{log_of}
+use Rattle.rule_store.specs.Needs.{log_needs}
 use Rattle.log_cursor.specs.Seek.{cell_among}
+use Rattle.snapshots.specs.Needs.{block_places}
 use Rattle.snapshots.specs.Parts.{stops_in}
 use Rattle.object_track.proofs.PositionLemmas.{cell_among-absent, cell_among-present, position_cost_in-present}
 use Rattle.object_track.proofs.position.cell_in.Goals as goal
@@ -10,6 +13,11 @@ pub returns-in_err-block-clause-value : goal.returns-in_err-block-clause-value
 returns-in_err-block-clause-value g c =
     c.from_residual.ensures ∙ sym (cell_among-absent c.args.stores.now c.args.place c.args.period c.args.instant
     c.in_err-block.ensures.value)
+
+pub seek-requires-clause-may : goal.seek-requires-clause-may
+seek-requires-clause-may g c =
+    let here = c.new-placed.ensures.places ∙ ap block_places c.in_ok-block.ensures.value in
+    subst (λ (places : ℕ × ℕ). ReadsWithin (log_needs places) g.L.Reads.may) (sym here) c.requires.log
 
 pub returns-clause-value : goal.returns-clause-value
 returns-clause-value g c =

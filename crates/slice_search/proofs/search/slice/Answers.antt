@@ -3,9 +3,10 @@ use Rattle.std.proofs.lemmas.Int.{ints}
 use Rattle.std.proofs.lemmas.List.Sorted.{IsNonDecreasingBy-from_sort_by_key}
 use Rattle.step_count.specs.Reads.{ofPeriod}
 use Rattle.track_types.specs.Frame.{periods_of}
-use Rattle.snapshots.specs.Parts.{period_in}
+use Rattle.snapshots.specs.Parts.{period_in, snapshot_in}
 use Rattle.snapshots.specs.SoundParts.{IsValid}
-use Rattle.snapshots.proofs.NeedsLemmas.{may-found, within-logs, within-period}
+use Rattle.snapshots.specs.Needs.{is_found, is_of_logs, log_places}
+use Rattle.snapshots.proofs.NeedsLemmas.{is_found-same, may-log, may-period, within-period}
 use Rattle.object_track.proofs.MetLemmas.{period_in-some}
 use Rattle.slice_search.specs.Cost.{period_search_cost, slice_cost}
 use Rattle.slice_search.specs.Sightings.{AreSightings}
@@ -29,7 +30,11 @@ invariant_of-sought g c = record { known = within g (goal.at.invariant_of-sought
 
 -- which may be read
 allowed : (g : Over) (c : In-Some g) → IsTrue (g.L.Reads.may (ofPeriod c.in-Some.period))
-allowed g c = may-found g.L.Reads.may _ c.in-Some.period (when g c) c.requires.may
+allowed g c =
+    let parts = c.args.stores.now in
+    let found = period_in parts.frame c.args.instant in
+    may-period g.L.Reads.may parts.frame (is_found found) (is_of_logs parts) c.requires.may c.in-Some.period (within g c)
+    (is_found-same found c.in-Some.period (when g c))
 
 pub sightings-requires-clause-may : goal.sightings-requires-clause-may
 sightings-requires-clause-may g c = λ read needed.
@@ -37,7 +42,12 @@ sightings-requires-clause-may g c = λ read needed.
     (c.blocks-blocks.ensures.needs read needed)
 
 pub sightings-requires-clause-logs : goal.sightings-requires-clause-logs
-sightings-requires-clause-logs g c = within-logs g.L.Reads.may _ c.requires.may
+sightings-requires-clause-logs g c =
+    let parts = c.args.stores.now in
+    let at = (goal.at.sightings-requires-clause-logs g c).In-Some in
+    let found = period_in parts.frame c.args.instant in
+    may-log g.L.Reads.may parts.frame (is_found found) (is_of_logs parts) c.requires.may c.in-Some.period (within g at)
+    (is_found-same found c.in-Some.period (when g at)) (log_places (snapshot_in parts c.in-Some.period)) (λ place is. is)
 
 -- the reads of the search in the period
 reads : (g : Over) (c : After-sightings g)

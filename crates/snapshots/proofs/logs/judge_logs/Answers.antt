@@ -5,7 +5,9 @@ use Rattle.std.proofs.lemmas.Result.{err_from_is_err_and}
 use Rattle.list_laws.proofs.GreatestLemmas.{fold_max-more}
 use Rattle.rule_store.specs.View.{RulesView}
 use Rattle.track_types.specs.declared.limit.TheConstants.{MAX_OBJECTS, MAX_SYMBOLS}
+use Rattle.rule_store.proofs.NeedsLemmas.{within-places}
 use Rattle.snapshots.specs.Flaws.{IsSnapFaultFor}
+use Rattle.snapshots.specs.Needs.{log_places}
 use Rattle.snapshots.specs.Speed.{block_speed, blocks_speed}
 use Rattle.snapshots.specs.Tracks.{track_box}
 use Rattle.snapshots.specs.View.{all_blocks}
@@ -56,6 +58,7 @@ loop-rank-init g c = record {
   rules_are = c.new-ahead.ensures.rules;
   at = omega (arith, c.new-ahead.ensures.place);
   end_is = omega (arith, c.new-ahead.ensures.end, c.logs-from.ensures.len);
+  later = omega (arith, c.new-ahead.ensures.read);
   within = omega (arith, c.new-ahead.ensures.read, c.new-ahead.ensures.end);
   reads = omega (arith, c.new-ahead.ensures.read);
 }
@@ -104,6 +107,13 @@ judge_log-requires-clause-long g c =
     let total : c.args.snapshot.now.start + sum c.args.snapshot.now.parts.lengths ≤ MAX_SYMBOLS =
     c.frame-frame.ensures.snapshot.shaped.total in
     omega (arith, (takes g (goal.at.judge_log-requires-clause-long g c).After-judge_log-arg-1).its.to, total)
+
+pub judge_log-requires-clause-may : goal.judge_log-requires-clause-may
+judge_log-requires-clause-may g c =
+    let at = (goal.at.judge_log-requires-clause-may g c).After-judge_log-arg-1 in
+    let ahead = c.loop-rank.ahead in
+    within-places g.L.Reads.may (ahead.read, ahead.end) (log_places c.args.snapshot.now)
+    (omega (arith, begun g at, c.loop-rank.invariant.later)) (omega (arith, begun g at, c.loop-rank.invariant.end_is)) c.requires.may
 
 pub returns-in_err-log-clause-flaw : goal.returns-in_err-log-clause-flaw
 returns-in_err-log-clause-flaw g c =
@@ -164,6 +174,7 @@ loop-rank-preserved g c =
       rules_are = read.rules_are ∙ before.rules_are;
       at = omega (arith, log.place, takes.begins, begun g at, takes.log);
       end_is = omega (arith, read.end_is, before.end_is);
+      later = omega (arith, read.later, before.later);
       within = omega (arith, read.within);
       reads = omega (arith, read.reads, before.reads);
     }

@@ -17,6 +17,7 @@ invariant-loop-rank g l = record {
   rules_are : l.ahead.rules ≡ l.fn.rules;
   at : l.ahead.place ≡ from + sum (take l.rank l.fn.snapshot.parts.lengths);
   end_is : l.ahead.end ≡ from + sum l.fn.snapshot.parts.lengths;
+  later : from ≤ l.ahead.read;
   within : l.ahead.read ≤ l.ahead.end;
   reads : l.steps + from ≤ l.fn.steps + l.ahead.read;
 }

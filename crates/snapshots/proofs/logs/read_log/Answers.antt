@@ -2,6 +2,7 @@ use Rattle.std.proofs.Common.{◌≡◌, ℕ, ℤ, List, max, ap, ◌+ℤ◌, le
 use Rattle.std.proofs.lemmas.Int.{ints}
 use Rattle.std.specs.Prelude.{slice_index}
 use Rattle.rule_store.specs.Entry.{entry_of}
+use Rattle.rule_store.proofs.NeedsLemmas.{within-places}
 use Rattle.track_types.specs.Near.{IsCellWithin}
 use Rattle.snapshots.specs.Ahead.{stored_entry}
 use Rattle.snapshots.specs.Parts.{block_log}
@@ -34,8 +35,15 @@ loop-place-init g c = record {
   fastest = omega arith;
   boxed = c.of.ensures;
   at = omega (arith, c.requires.at);
-  read = record { rules_are = refl; end_is = refl; within = c.requires.read; reads = omega arith };
+  read = record { rules_are = refl; end_is = refl; later = omega arith; within = c.requires.read; reads = omega arith };
 }
+
+pub next-entry-requires-clause-may : goal.next-entry-requires-clause-may
+next-entry-requires-clause-may g c =
+    let ahead = c.loop-place.ahead in
+    let read = c.loop-place.invariant.read in
+    within-places g.L.Reads.may (ahead.read, ahead.end) (c.args.ahead.now.read, c.args.ahead.now.end)
+    (omega (arith, read.later)) (omega (arith, read.end_is)) c.requires.may
 
 pub returns-then-passes_grid-clause-err : goal.returns-then-passes_grid-clause-err
 returns-then-passes_grid-clause-err g c =
@@ -81,6 +89,7 @@ loop-place-preserved g c =
       read = record {
         rules_are = c.next-entry.ensures.rules ∙ place.invariant.read.rules_are;
         end_is = c.next-entry.ensures.end ∙ place.invariant.read.end_is;
+        later = omega (arith, c.next-entry.ensures.later, place.invariant.read.later);
         within = c.next-entry.ensures.within;
         reads = omega (arith, c.next-entry.ensures.cost, place.invariant.read.reads);
       };

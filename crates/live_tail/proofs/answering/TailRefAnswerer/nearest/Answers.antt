@@ -29,8 +29,8 @@ nearest-requires-clause-may g c =
     let same : to_z w64 (of_z w64 c.args.instant) ≡ at = omega (arith, ints) in
     let its : c.view-view.result.index.now ≡ c.args.self.tailed.now.parts = c.view-view.ensures ∙ c.index-index.ensures in
     λ wanted read needed. c.requires.may read
-    (subst (λ (p : Parts). IsTrue (needs_at p.frame at read)) its
-    (subst (λ z. IsTrue (needs_at c.view-view.result.index.now.frame z read)) same needed))
+    (subst (λ (p : Parts). IsTrue (needs_at p at read)) its
+    (subst (λ z. IsTrue (needs_at c.view-view.result.index.now z read)) same needed))
 
 pub returns-clause-ok : goal.returns-clause-ok
 returns-clause-ok g c =

@@ -11,6 +11,8 @@ use Rattle.track_index.specs.Cost.{cost_of}
 use Rattle.live_tail.specs.Cost.{cost_beside}
 use Rattle.live_tail.specs.Join.{rows_of_tail}
 use Rattle.live_tail.proofs.JoinLemmas.{cell_at-joint_chart}
+use Rattle.std.specs.Prelude.{IsTrue}
+use Rattle.snapshots.specs.Needs.{object_needs_at}
 use Rattle.live_tail.proofs.answering.TailRefAnswerer.position.Goals as goal
 
 pub returns-in-Some-clause-value : goal.returns-in-Some-clause-value
@@ -52,3 +54,12 @@ returns-in-None-clause-cost g c =
     (c.view-index.ensures ∙ c.index.ensures)
     (subst (λ z. c.position.new.steps ≤ c.args.steps.now + cost_of c.view-index.result.index.now (Position c.args.object z)) same
     c.position.ensures.cost)
+
+pub position-requires-clause-may : goal.position-requires-clause-may
+position-requires-clause-may g c =
+    let object = c.args.object in
+    let same : to_z w64 (of_z w64 c.args.instant) ≡ c.args.instant = omega (arith, ints) in
+    let its : c.view-index.result.index.now ≡ c.args.self.tailed.now.parts = c.view-index.ensures ∙ c.index.ensures in
+    λ read needed. c.requires.may read
+    (subst (λ (p : Parts). IsTrue (object_needs_at p object c.args.instant read)) its
+    (subst (λ z. IsTrue (object_needs_at c.view-index.result.index.now object z read)) same needed))

@@ -1,7 +1,7 @@
 use Rattle.std.proofs.Common.{◌≡◌, ◌≤◌, ◌+◌, ℕ, ℤ, Option, filter, to_z, of_z, w64, ap, sym, subst, ◌∙◌, arith}
 use Rattle.std.specs.Prelude.{IsTrue}
 use Rattle.std.proofs.lemmas.Int.{ints}
-use Rattle.snapshots.specs.Needs.{needs_between}
+use Rattle.snapshots.specs.Needs.{object_needs_between}
 use Rattle.track_types.specs.ByFilter.{is_row_between, path_of}
 use Rattle.track_types.specs.Chart.{ChartView}
 use Rattle.track_types.specs.Row.{IsAscending}
@@ -67,9 +67,9 @@ returns-clause-needs c =
     let high : to_z w64 (of_z w64 c.args.to) ≡ to = omega (arith, ints) in
     let its : c.view-index.result.index.now ≡ c.args.self.tailed.now.parts = c.view-index.ensures ∙ c.index.ensures in
     λ read needed.
-    subst (λ (p : Parts). IsTrue (needs_between p.frame from to read)) its
-    (subst (λ z. IsTrue (needs_between c.view-index.result.index.now.frame from z read)) high
-    (subst (λ z. IsTrue (needs_between c.view-index.result.index.now.frame z (to_z w64 (of_z w64 c.args.to)) read)) low
+    subst (λ (p : Parts). IsTrue (object_needs_between p c.args.object from to read)) its
+    (subst (λ z. IsTrue (object_needs_between c.view-index.result.index.now c.args.object from z read)) high
+    (subst (λ z. IsTrue (object_needs_between c.view-index.result.index.now c.args.object z (to_z w64 (of_z w64 c.args.to)) read)) low
     (c.in_ok-walk.ensures.needs read (c.of.ensures.needs read needed))))
 
 -- the tail's rows cost nothing until then, and the index's walk costs what it does without them

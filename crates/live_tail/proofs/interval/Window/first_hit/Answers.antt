@@ -13,7 +13,7 @@ use Rattle.live_tail.specs.SmallRows.{rows_in}
 use Rattle.std.specs.List.Sorted.{IsStrictlySortedBy}
 use Rattle.std.proofs.lemmas.List.Elements.{All-filter, All-same}
 use Rattle.track_types.specs.declared.question.Question.TheVariants.{Path}
-use Rattle.track_types.specs.declared.frame.Frame.{Frame}
+use Rattle.track_types.specs.declared.parts.Parts.{Parts}
 use Rattle.snapshots.specs.Needs.{needs_between}
 use Rattle.snapshots.specs.Parts.{chart_in}
 use Rattle.track_index.specs.Cost.{cost_of}
@@ -63,13 +63,13 @@ first_of_both-requires-clause-ascending g c =
 pub first_of_both-requires-clause-may : goal.first_of_both-requires-clause-may
 first_of_both-requires-clause-may g c =
     let self = c.args.self.now in
-    let frame : Frame = self.index.index.now.frame in
+    let parts : Parts = self.index.index.now in
     let low : to_z w64 (of_z w64 self.from) ≡ self.from = omega (arith, ints) in
     let high : to_z w64 (of_z w64 self.to) ≡ self.to = omega (arith, ints) in
     λ read needed. c.requires.may read
-    (subst (λ z. IsTrue (needs_between frame self.from z read)) high
-    (subst (λ z. IsTrue (needs_between frame z (to_z w64 (of_z w64 self.to)) read)) low
-    (c.in_ok-walk.ensures.needs read needed)))
+    (subst (λ z. IsTrue (needs_between parts self.from z read)) high
+    (subst (λ z. IsTrue (needs_between parts z (to_z w64 (of_z w64 self.to)) read)) low
+    (c.in_ok-walk.ensures.within read needed)))
 
 pub returns-in_default-clause-ok : goal.returns-in_default-clause-ok
 returns-in_default-clause-ok g c =

@@ -4,6 +4,7 @@ use Rattle.rule_store.specs.Entry.{entry_of}
 use Rattle.rule_store.specs.Flaws.{AreRules}
 use Rattle.rule_store.specs.Log.{in_window, log_of, stop_at}
 use Rattle.rule_store.specs.View.{RulesView}
+use Rattle.rule_store.proofs.NeedsLemmas.{may-symbol}
 use Rattle.log_cursor.specs.Descent.{first_needed, hit_from}
 use Rattle.log_cursor.specs.Touching.{first_among}
 use Rattle.log_cursor.proofs.DescentLemmas.{IsPassed, anchor-end, passing-cost, passing-found, passing-last, passing-next, passing-start, passing-within}
@@ -95,6 +96,10 @@ passed g c = record {
   known = c.entry-entry-in-loop-i.ensures.within;
   read = omega (arith, c.entry-entry-in-loop-i.ensures.cost);
 }
+
+pub entry-entry-requires-in-loop-i-clause-may : goal.entry-entry-requires-in-loop-i-clause-may
+entry-entry-requires-in-loop-i-clause-may g c =
+    may-symbol g.L.Reads.may c.args.view c.loop-i.i (omega (arith, c.len-i-end.ensures, c.loop-i-test.true)) c.requires.may
 
 pub after-next-requires : goal.after-next-requires
 after-next-requires g c = passing-start (passed g (goal.at.after-next-requires g c).After-entry-entry-in-loop-i)

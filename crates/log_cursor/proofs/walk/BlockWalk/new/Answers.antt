@@ -30,4 +30,8 @@ invariant_of-result c =
 pub returns : goal.returns
 returns c =
     let facts = c.in_ok-pending.ensures in
-    record { ok = walk_of-none c.in_ok-pending.pending nowhere (pos 0) (pos 0) facts.symbols facts.unread ∙ ap at_rest facts.rules }
+    let pending = c.in_ok-pending.pending in
+    record {
+      ok = walk_of-none pending nowhere (pos 0) (pos 0) facts.symbols facts.unread ∙ ap (λ r. at_rest r pending.places) facts.rules
+          ∙ ap (at_rest c.args.rules.now) facts.places;
+    }

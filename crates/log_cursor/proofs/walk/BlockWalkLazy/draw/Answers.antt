@@ -2,6 +2,7 @@ use Rattle.std.proofs.Common.{◌≡◌, ◌+◌, ◌≤ℤ◌, ◌<ℤ◌, [], 
 use Rattle.std.specs.Option.{is_some}
 use Rattle.std.proofs.lemmas.Bool.{leb-false, leb-true}
 use Rattle.std.proofs.lemmas.Int.{ints}
+use Rattle.rule_store.proofs.NeedsLemmas.{log_needs-same}
 use Rattle.log_cursor.specs.Turn.{IsWalking, has_hull, is_any}
 use Rattle.log_cursor.specs.Walk.{WalkView, walk_of}
 use Rattle.log_cursor.proofs.InTimeLemmas.{in_time-absent, in_time-before, in_time-first, in_time-opened, in_time-stop}
@@ -20,6 +21,7 @@ loop-self-init g c =
     let count = opened_left-count walk.pending.rules walk.from walk.to walk.at walk.pending.symbols in
     record {
       anchor = c.take.ensures.after;
+      places = ap (λ (w : WalkView). w.places) c.self.view_is;
       walking = subst (λ (first : WalkView). IsWalking is_any has_hull first.rules first.stops
           (c.args.steps.now + first.reads) walk.from walk.to walk.pending walk.at c.args.steps.now) c.self.view_is (record {
             passed = [];
@@ -46,6 +48,8 @@ returns-in_err-entry g c =
       cost = view.1;
       in_time = tt;
       rules = c.next.ensures.rules ∙ walking.same;
+      places = c.next.ensures.places ∙ c.loop-self.invariant.places;
+      needs = log_needs-same (c.next.ensures.places ∙ c.loop-self.invariant.places);
     })
 
 pub after-next-requires : goal.after-next-requires
@@ -73,6 +77,7 @@ loop-self-preserved-then-next-self g c =
     let its = turn g (goal.at.loop-self-preserved-then-next-self g c).After-after-next in
     record {
       anchor = c.loop-self.invariant.anchor;
+      places = c.next.ensures.places ∙ c.loop-self.invariant.places;
       walking = elim c.then-next-self.branch [
         | then-next-self-via-then-next-self w ↦
             let ended : c.after-next.result.instant <ℤ c.loop-self.self-inside.from =
@@ -116,6 +121,7 @@ loop-self-preserved g c =
     let its = within g at.After-is_rule in
     record {
       anchor = c.loop-self.invariant.anchor;
+      places = c.open.ensures.places ∙ c.next.ensures.places ∙ c.loop-self.invariant.places;
       walking = turn-opened (turn g at.After-after-next) its.1 its.2 its.0 c.next.ensures.sound
           (leb-true _ _ (sym c.is_rule.ensures ∙ c.if-is_rule.true)) c.open.new.self c.open.new.steps
           c.open.ensures.rules c.open.ensures.symbols c.open.ensures.unread c.open.ensures.cost;
@@ -170,4 +176,6 @@ returns g c =
       cost = view.1;
       in_time = tt;
       rules = walking.same;
+      places = c.loop-self.invariant.places;
+      needs = log_needs-same c.loop-self.invariant.places;
     })

@@ -8,6 +8,7 @@ invariant-loop-self g l =
     let walk = l.self-inside in
     let first = l.fn.self in record {
       anchor : walk.anchor ≡ None;
+      places : walk.pending.places ≡ first.places;
       walking : IsWalking is_any has_hull first.rules first.stops (l.fn.steps + first.reads) walk.from walk.to walk.pending
           walk.at l.steps;
       in_time : IsWalkingInTime first l.fn.steps walk.from walk.to walk.pending walk.at l.steps;

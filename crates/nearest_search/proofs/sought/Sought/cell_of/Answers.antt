@@ -2,8 +2,10 @@ use Rattle.std.proofs.Common.{◌≡◌, ◌∙◌, w64, to_z, of_z, arith, ap, 
 use Rattle.std.proofs.lemmas.Int.{ints}
 use Rattle.rule_store.specs.Log.{log_of}
 use Rattle.log_cursor.specs.Seek.{cell_among}
-use Rattle.snapshots.specs.Parts.{stops_of}
+use Rattle.snapshots.specs.Parts.{snapshot_in, stops_of}
 use Rattle.nearest_search.proofs.FoundLemmas.{cell-sought, cell-within, seek-paid}
+use Rattle.rule_store.specs.Needs.{places_of}
+use Rattle.snapshots.proofs.NeedsLemmas.{within-block}
 use Rattle.nearest_search.proofs.sought.Sought.cell_of.Goals as goal
 
 pub returns-clause-value : goal.returns-clause-value
@@ -32,3 +34,9 @@ returns-clause-cost g c =
     c.new-placed.result.log.rules.now (log_of c.new-placed.result.log) c.new-placed.result.start
     c.new-placed.ensures.rules c.new-placed.ensures.log c.new-placed.ensures.start in
     omega (arith, paid, c.seek.ensures.cost)
+
+pub seek-requires-clause-may : goal.seek-requires-clause-may
+seek-requires-clause-may g c =
+    let self = c.args.self.now in
+    within-block g.L.Reads.may (snapshot_in self.stores.now self.period) c.args.block.now
+    (places_of c.new-placed.result.log) c.requires.block c.new-placed.ensures.places c.requires.logs

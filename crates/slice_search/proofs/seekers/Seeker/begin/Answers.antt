@@ -2,7 +2,7 @@ use Rattle.std.proofs.Common.{◌≡◌, ap, sym, refl, ◌∙◌, arith}
 use Rattle.std.proofs.lemmas.Int.{ints}
 use Rattle.std.proofs.lemmas.Option.{get_or_from_slice_get}
 use Rattle.rule_store.specs.Log.{log_of}
-use Rattle.snapshots.specs.Parts.{rules_in}
+use Rattle.snapshots.specs.Parts.{rules_in, snapshot_in}
 use Rattle.snapshots.specs.SoundParts.{IsValid}
 use Rattle.object_track.proofs.BlockLemmas.{block-known}
 use Rattle.log_cursor.specs.Descent.{hit_of}
@@ -10,6 +10,8 @@ use Rattle.slice_search.specs.Sightings.{seen_at}
 use Rattle.std.specs.Option.{option_map}
 use Rattle.log_cursor.proofs.StopLemmas.{word}
 use Rattle.slice_search.proofs.HitLemmas.{first_in-found, first_stop-found, log_reads-found, sighting_in-is}
+use Rattle.rule_store.specs.Needs.{places_of}
+use Rattle.snapshots.proofs.NeedsLemmas.{within-block}
 use Rattle.slice_search.proofs.seekers.Seeker.begin.Goals as goal
 
 pub object_at-requires : goal.object_at-requires
@@ -54,3 +56,9 @@ returns-clause-cost g c =
     let cost = rw (placed.rules, kept) at c.begin.ensures.cost in
     let least = rw placed.rules at most in
     omega (arith, least, cost)
+
+pub begin-requires-clause-may : goal.begin-requires-clause-may
+begin-requires-clause-may g c =
+    let sought = c.args.sought.now in
+    within-block g.L.Reads.may (snapshot_in sought.stores.now sought.period) c.args.block.now (places_of c.new.result.log)
+    c.requires.block c.new.ensures.places c.requires.may

@@ -6,6 +6,9 @@ use Rattle.object_track.proofs.BlockLemmas.{block-known}
 use Rattle.rule_store.specs.Log.{log_of}
 use Rattle.slice_search.specs.Sought.{first_stop_in}
 use Rattle.slice_search.proofs.HitLemmas.{first_stop-found, log_reads-found}
+use Rattle.rule_store.specs.Needs.{places_of}
+use Rattle.snapshots.specs.Parts.{snapshot_in}
+use Rattle.snapshots.proofs.NeedsLemmas.{within-block}
 use Rattle.slice_search.proofs.sought.Sought.first_stop.Goals as goal
 
 pub returns-clause-value : goal.returns-clause-value
@@ -36,3 +39,9 @@ returns-clause-cost g c =
     c.args.block.now c.new-placed.result.log.rules.now (log_of c.new-placed.result.log) c.new-placed.result.start
     placed.rules placed.log placed.start in
     omega (arith, most, c.first_hit.ensures.cost)
+
+pub first_hit-requires-clause-may : goal.first_hit-requires-clause-may
+first_hit-requires-clause-may g c =
+    let self = c.args.self.now in
+    within-block g.L.Reads.may (snapshot_in self.stores.now self.period) c.args.block.now
+    (places_of c.new-placed.result.log) c.requires.block c.new-placed.ensures.places c.requires.may

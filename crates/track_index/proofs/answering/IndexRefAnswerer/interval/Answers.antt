@@ -2,7 +2,6 @@ use Rattle.std.proofs.Common.{◌≡◌, ◌≤◌, ◌+◌, ℤ, w64, to_z, of_
 use Rattle.std.proofs.lemmas.Int.{ints}
 use Rattle.step_count.specs.Reads.{ReadsWithin}
 use Rattle.snapshots.specs.Needs.{needs_between}
-use Rattle.track_types.specs.declared.frame.Frame.{Frame}
 use Rattle.track_types.specs.declared.parts.Parts.{Parts}
 use Rattle.interval_search.specs.Cost.{interval_cost}
 use Rattle.track_index.specs.Cost.{cost_of}
@@ -23,11 +22,11 @@ returns-clause-cost g c =
 
 pub interval_of-requires-clause-may : goal.interval_of-requires-clause-may
 interval_of-requires-clause-may g c =
-    let frame : Frame = c.args.self.index.now.frame in
+    let parts : Parts = c.args.self.index.now in
     let low : ℤ = to_z w64 (of_z w64 c.args.from) in
     let high : ℤ = to_z w64 (of_z w64 c.args.to) in
     let from : low ≡ c.args.from = omega (arith, ints) in
     let to : high ≡ c.args.to = omega (arith, ints) in
-    subst (λ (p : Parts). ReadsWithin (needs_between p.frame low high) g.L.Reads.may) (sym c.stores.ensures.value)
-    (subst (λ z. ReadsWithin (needs_between frame z high) g.L.Reads.may) (sym from)
-    (subst (λ z. ReadsWithin (needs_between frame c.args.from z) g.L.Reads.may) (sym to) c.requires.may))
+    subst (λ (p : Parts). ReadsWithin (needs_between p low high) g.L.Reads.may) (sym c.stores.ensures.value)
+    (subst (λ z. ReadsWithin (needs_between parts z high) g.L.Reads.may) (sym from)
+    (subst (λ z. ReadsWithin (needs_between parts c.args.from z) g.L.Reads.may) (sym to) c.requires.may))

@@ -20,6 +20,6 @@ returns-clause-cost g c =
 pub nearest-requires-clause-may : goal.nearest-requires-clause-may
 nearest-requires-clause-may g c =
     let same : to_z w64 (of_z w64 c.args.instant) ≡ c.args.instant = omega (arith, ints) in
-    subst (λ (p : Parts). ReadsWithin (needs_at p.frame (to_z w64 (of_z w64 c.args.instant))) g.L.Reads.may)
+    subst (λ (p : Parts). ReadsWithin (needs_at p (to_z w64 (of_z w64 c.args.instant))) g.L.Reads.may)
     (sym c.stores.ensures.value)
-    (subst (λ z. ReadsWithin (needs_at c.args.self.index.now.frame z) g.L.Reads.may) (sym same) c.requires.may)
+    (subst (λ z. ReadsWithin (needs_at c.args.self.index.now z) g.L.Reads.may) (sym same) c.requires.may)

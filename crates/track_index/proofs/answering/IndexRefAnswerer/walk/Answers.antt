@@ -1,13 +1,15 @@
-use Rattle.std.proofs.Common.{◌≡◌, ℤ, ◌≤◌, w64, to_z, of_z, arith, ap, subst, sym, ◌∙◌}
+use Rattle.std.proofs.Common.{◌≡◌, ℕ, Bool, ℤ, ◌≤◌, w64, to_z, of_z, arith, ap, subst, sym, ◌∙◌}
+use Rattle.std.specs.Prelude.{IfOk}
 use Rattle.std.proofs.lemmas.Int.{ints}
 use Rattle.std.proofs.lemmas.Result.{IfOk-weaker}
 use Rattle.track_types.specs.ByFilter.{path_of}
 use Rattle.track_types.specs.declared.parts.Parts.{Parts}
 use Rattle.step_count.specs.Reads.{ReadsWithin}
-use Rattle.snapshots.specs.Needs.{needs_between}
+use Rattle.snapshots.specs.Needs.{is_of_block, is_of_logs, needs_between, needs_in, object_needs_between}
+use Rattle.snapshots.proofs.NeedsLemmas.{object-within}
 use Rattle.object_track.specs.Met.{AreMet}
 use Rattle.track_index.proofs.NeedsLemmas.{left-met, left-none}
-use Rattle.snapshots.specs.IndexCost.{path_cost}
+use Rattle.snapshots.specs.IndexCost.{is_met, path_cost}
 use Rattle.snapshots.specs.Parts.{chart_in, index_in}
 use Rattle.track_index.specs.Cost.{cost_of}
 use Rattle.track_index.specs.Path.{path_needs, path_reads_to, PathView}
@@ -16,6 +18,7 @@ use Rattle.object_track.proofs.BetweenLemmas.{cost_between-none, cost_between-pa
 use Rattle.track_index.proofs.PastLemmas.{until-made}
 use Rattle.track_index.proofs.UntilLemmas.{cost_until-none, cost_until-path}
 use Rattle.track_index.proofs.answering.IndexRefAnswerer.walk.Goals as goal
+use Rattle.track_index.proofs.answering.IndexRefAnswerer.walk.Goals.{After-new}
 
 pub returns-in_default-clause-left : goal.returns-in_default-clause-left
 returns-in_default-clause-left c =
@@ -108,12 +111,26 @@ returns-clause-in_time c =
     until-made c.args.self.index.now c.args.object c.args.from c.args.to c.new-2.result
     (returns-clause-left c) (returns-clause-budget c) (returns-clause-budget_to c)
 
+-- no period is left where there is no such object
+nothing-left : (c : After-new) (periods : ℕ → Bool) (symbols : ℕ → ℕ → Bool)
+    → IfOk c.new.result (λ (w : PathView). ReadsWithin (path_needs w) (needs_in c.args.self.index.now.frame periods symbols))
+nothing-left c periods symbols =
+    let parts : Parts = c.args.self.index.now in
+    IfOk-weaker c.new.result _ (λ (w : PathView). ReadsWithin (path_needs w) (needs_in parts.frame periods symbols))
+    (λ walk within read needed. left-none parts 0 c.none.result.next c.none.result.end periods symbols c.none.ensures.end read
+    (within read needed)) c.new.ensures.needs
+
 pub returns-in_default-clause-needs : goal.returns-in_default-clause-needs
 returns-in_default-clause-needs c =
-    let frame = c.args.self.index.now.frame in
-    IfOk-weaker c.new.result _ (λ (w : PathView). ReadsWithin (path_needs w) (needs_between frame c.args.from c.args.to))
-    (λ walk within read needed. left-none frame c.args.from c.args.to c.none.result.next c.none.result.end
-    c.none.ensures.end read (within read needed)) c.new.ensures.needs
+    let parts : Parts = c.args.self.index.now in
+    nothing-left (goal.at.returns-in_default-clause-needs c).After-new (is_met parts.frame c.args.from c.args.to)
+    (is_of_block parts (index_in parts.objects c.args.object))
+
+pub returns-in_default-clause-within : goal.returns-in_default-clause-within
+returns-in_default-clause-within c =
+    let parts : Parts = c.args.self.index.now in
+    nothing-left (goal.at.returns-in_default-clause-within c).After-new (is_met parts.frame c.args.from c.args.to)
+    (is_of_logs parts)
 
 pub returns-clause-needs : goal.returns-clause-needs
 returns-clause-needs c =
@@ -127,6 +144,17 @@ returns-clause-needs c =
     (subst (λ z. AreMet parts.frame z (to_z w64 (of_z w64 c.args.to)) next behind) low
     (subst (λ (p : Parts). AreMet p.frame (to_z w64 (of_z w64 c.args.from)) (to_z w64 (of_z w64 c.args.to)) next behind)
     c.stores-stores.ensures.value c.met-periods.ensures)) in
-    IfOk-weaker c.new-2.result _ (λ (w : PathView). ReadsWithin (path_needs w) (needs_between parts.frame c.args.from c.args.to))
-    (λ walk within read needed. left-met parts.frame c.args.from c.args.to next behind met read (within read needed))
-    c.new-2.ensures.needs
+    let known = c.in-Some.ensures.value
+    ∙ ap (λ (p : Parts). index_in p.objects c.args.object) c.stores-stores.ensures.value in
+    IfOk-weaker c.new-2.result _
+    (λ (w : PathView). ReadsWithin (path_needs w) (object_needs_between parts c.args.object c.args.from c.args.to))
+    (λ walk within read needed. left-met parts c.args.object c.in-Some.place c.args.from c.args.to next behind known met read
+    (within read needed)) c.new-2.ensures.needs
+
+pub returns-clause-within : goal.returns-clause-within
+returns-clause-within c =
+    let parts : Parts = c.args.self.index.now in
+    IfOk-weaker c.new-2.result _
+    (λ (w : PathView). ReadsWithin (path_needs w) (needs_between parts c.args.from c.args.to))
+    (λ walk within read needed. object-within parts c.stores-stores.ensures.valid (index_in parts.objects c.args.object)
+    (is_met parts.frame c.args.from c.args.to) read (within read needed)) (returns-clause-needs c)

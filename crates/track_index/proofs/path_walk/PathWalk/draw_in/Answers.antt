@@ -1,12 +1,15 @@
-use Rattle.std.proofs.Common.{◌≡◌, [], to_z, of_z, w64, refl, arith, subst, sym, ◌∙◌}
+use Rattle.std.proofs.Common.{◌≡◌, [], to_z, of_z, w64, ap, refl, arith, subst, sym, ◌∙◌}
 use Rattle.std.proofs.lemmas.Int.{ints}
 use Rattle.track_types.specs.declared.parts.Parts.{Parts}
 use Rattle.step_count.specs.Reads.{ReadsWithin, ofPeriod}
 use Rattle.rule_store.specs.Log.{log_of}
 use Rattle.snapshots.specs.SoundParts.{IsValid}
-use Rattle.track_index.specs.Path.{IsSeekingIn, PathView, left_needs, path_needs}
-use Rattle.snapshots.proofs.NeedsLemmas.{within-logs}
-use Rattle.track_index.proofs.NeedsLemmas.{is_left-next, left-more}
+use Rattle.track_index.specs.Path.{IsSeekingIn, PathView, path_needs, walk_needs}
+use Rattle.log_cursor.specs.Walk.{WalkView}
+use Rattle.rule_store.specs.Needs.{places_of}
+use Rattle.snapshots.specs.Parts.{snapshot_in}
+use Rattle.snapshots.specs.View.{block_of}
+use Rattle.track_index.proofs.NeedsLemmas.{is_left-next, walk-absent, walk-log, walk-next}
 use Rattle.track_index.proofs.PathLemmas.{drawing-absent, drawing-walk_from}
 use Rattle.track_index.proofs.SeekingLemmas.{drawing-here, seeking-end, seeking-hit, seeking-on, seeking-passed, seeking-walk}
 use Rattle.track_index.proofs.path_walk.PathWalk.draw_in.Given.{Over}
@@ -30,7 +33,8 @@ loop-stop-init g c =
             outside = refl;
             reads = omega arith;
           }),
-      subst (λ (first : PathView). ReadsWithin (left_needs walk.periods.next walk.periods.end) (path_needs first))
+      subst (λ (first : PathView). ReadsWithin (walk_needs walk.block.places walk.index.now walk.object walk.periods.next
+          walk.periods.end) (path_needs first))
           c.self.view_is (λ read needed. needed),
     )
 
@@ -72,10 +76,14 @@ loop-stop-preserved-in-Some-find g c =
           c.draw_in.new.self c.draw_in.new.steps seeking.its seeking.walk)
           c.in_default.ensures.drawn.end refl (omega arith)
           c.find.ensures.cost c.in-Some-find.block c.begin.new.self c.new-placed.result.log.rules.now
-          (log_of c.new-placed.result.log) c.new-placed.result.start (to_z w64 (of_z w64 walk.from))
+          (places_of c.new-placed.result.log) (log_of c.new-placed.result.log) c.new-placed.result.start (to_z w64 (of_z w64 walk.from))
           (to_z w64 (of_z w64 walk.to)) c.in-Some-find.ensures.value c.in-Some-find.ensures.block placed.rules placed.log placed.start low high
           c.begin.ensures.walk),
-      λ read needed. c.loop-stop.invariant.1 read (left-more _ _ read needed),
+      λ read needed. c.loop-stop.invariant.1 read (walk-next walk.index.now walk.object walk.periods.next walk.periods.end
+          seeking.walk.within (omega (arith, c.if-self.false)) c.begin.new.self.places walk.block.places
+          c.in-Some-find.block (c.in-Some-find.ensures.value
+          ∙ ap (λ (p : Parts). block_of (snapshot_in p walk.periods.next) walk.object) (sym seeking.its))
+          (ap (λ (w : WalkView). w.places) c.begin.ensures.walk ∙ placed.places) read needed),
     )
 
 pub loop-stop-preserved : goal.loop-stop-preserved
@@ -90,11 +98,18 @@ loop-stop-preserved g c =
           c.draw_in.new.self c.draw_in.new.steps seeking.its seeking.walk)
           c.in_default.ensures.drawn.end refl (omega arith)
           c.find.ensures.cost refl c.in_default-find.ensures.value),
-      λ read needed. c.loop-stop.invariant.1 read (left-more _ _ read needed),
+      λ read needed. c.loop-stop.invariant.1 read (walk-absent walk.index.now walk.object walk.periods.next walk.periods.end
+          seeking.walk.within (omega (arith, c.if-self.false)) c.draw_in.new.self.places walk.block.places
+          c.in_default.ensures.places read needed),
     )
 
 pub draw_in-requires : goal.draw_in-requires
-draw_in-requires g c = record { may = λ read logs. c.requires.may read (within-logs (path_needs c.args.self.now) _ c.loop-stop.invariant.1 read logs) }
+draw_in-requires g c =
+    let walk = c.loop-stop.self-inside in
+    record {
+      may = λ read needed. c.requires.may read (c.loop-stop.invariant.1 read (walk-log walk.index.now walk.object walk.periods.next
+          walk.periods.end walk.block.places read needed));
+    }
 
 pub find-requires-clause-may : goal.find-requires-clause-may
 find-requires-clause-may g c =

@@ -3,6 +3,7 @@ use Rattle.std.proofs.lemmas.Int.{ints}
 use Rattle.std.proofs.lemmas.List.Elements.{All-nil, All-same}
 use Rattle.log_cursor.specs.Walk.{WalkView}
 use Rattle.track_index.specs.Path.{IsOfLast, cost_until}
+use Rattle.track_index.proofs.NeedsLemmas.{walk-begun}
 use Rattle.track_index.proofs.UntilLemmas.{block_reads_to-none}
 use Rattle.track_index.proofs.path_walk.PathWalk.new.Goals as goal
 
@@ -25,6 +26,11 @@ returns-clause-budget_to c = λ instant.
     let parts = c.args.index.now in
     let low : to_z w64 (of_z w64 c.args.from) ≡ c.args.from = omega (arith, ints) in
     let same = ap (λ z. cost_until parts c.args.object z instant c.args.periods.next c.args.periods.end) low in
-    let nothing = block_reads_to-none parts.frame c.args.periods.next c.in_ok-block.block _ instant
+    let nothing = block_reads_to-none parts.frame c.args.periods.next c.in_ok-block.block _ _ instant
     c.in_ok-block.ensures.ok in
     omega (arith, nothing, same)
+
+pub returns-clause-needs : goal.returns-clause-needs
+returns-clause-needs c =
+    walk-begun c.args.index.now c.args.object c.args.periods.next c.args.periods.end c.in_ok-block.block.places
+    (ap (λ (w : WalkView). w.places) c.in_ok-block.ensures.ok)
