@@ -1,5 +1,5 @@
 -- Which reads there are, and which of them may be made
-use Rattle.std.specs.Prelude.{ℕ, ◌==◌, Bool, false, true, IsTrue}
+use Rattle.std.specs.Prelude.{ℕ, ◌==◌, Bool, false, IsTrue}
 
 -- a read by what it is of: a period's snapshot or the tracks kept of it, the parts of a rule, or the stored symbol at a
 -- place
@@ -13,18 +13,6 @@ abbrev pub is_of_period : ℕ → Read → Bool
 is_of_period number (ofPeriod period) = period == number
 is_of_period number (ofRule rule) = false
 is_of_period number (ofSymbol place) = false
-
--- a read is of a log: of a rule or of a stored symbol
-abbrev pub is_of_log : Read → Bool
-is_of_log (ofPeriod period) = false
-is_of_log (ofRule rule) = true
-is_of_log (ofSymbol place) = true
-
--- a read is of a log, or of a period that passes a test
-abbrev pub is_of_periods : (ℕ → Bool) → Read → Bool
-is_of_periods test (ofPeriod period) = test period
-is_of_periods test (ofRule rule) = true
-is_of_periods test (ofSymbol place) = true
 
 -- each of these reads is one of those
 abbrev pub ReadsWithin : (Read → Bool) → (Read → Bool) → Type 0
