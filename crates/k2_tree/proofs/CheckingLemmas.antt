@@ -1,6 +1,6 @@
 -- The first flaw of bits, a group and a level at a time.
-use Rattle.std.proofs.Common.{◌≡◌, ℕ, suc, ◌+◌, ◌-◌, ◌*◌, ◌/◌, ◌<◌, ◌≤◌, nat_le, Bool, true, false, cond, List, [], ◌∷◌}
-use Rattle.std.proofs.Common.{length, take, drop, get_or, refl, sym, ap, ◌∙◌, inl, inr, arith, Option, None, Some}
+use Rattle.std.proofs.Common.{◌≡◌, ℕ, suc, ◌+◌, ◌-◌, ◌*◌, ◌<◌, ◌≤◌, nat_le, Bool, true, false, cond, List, [], ◌∷◌}
+use Rattle.std.proofs.Common.{length, take, drop, get_or, refl, sym, ap, ◌∙◌, arith, Option, None, Some}
 use Rattle.std.proofs.Common.{length-drop, length-take}
 use Rattle.std.specs.Prelude.{slice_get}
 use Rattle.std.specs.List.{list_any}
@@ -14,12 +14,10 @@ use Rattle.packed_bits.specs.Bits.{ones_of}
 use Rattle.bit_rank.specs.Bits.{rank_of}
 use Rattle.bit_rank.proofs.RankLemmas.{ones_of-append, ones_of-cons, ones_of-le-length, ones_of-nil, rank_of-step}
 use Rattle.k2_tree.specs.Widths.{fan_of, width_below, widths_under}
-use Rattle.k2_tree.specs.Groups.{upper_in}
 use Rattle.k2_tree.specs.Flaws.{has_group, group_flaw, level_flaw, tree_flaw}
 use Rattle.k2_tree.specs.Checking.{flaw_from, group_ones, IsLevel}
 use Rattle.k2_tree.proofs.WidthLemmas.{widths_under-opened, widths_under-none}
 use Rattle.k2_tree.proofs.FlawedLemmas.{has_group-parts}
-use Rattle.std.proofs.lemmas.Bool.{cases_lt, lt-ltb, le-ltb}
 
 -- the ones of a group that is whole
 pub group_ones-whole : (size : ℕ) (bits : List Bool) → size ≤ length bits → group_ones size bits
@@ -203,52 +201,3 @@ module _ {low height : ℕ} {bits : List Bool} {level start groups : ℕ}
     pub none_remain : length bits ≤ start → tree_flaw (widths_under low height) bits ≡ None
     unfolding level_flaw
     none_remain past = passed.left ∙ (rw (none_left, drop_all start bits past) refl)
-
--- the upper squares of levels of which so many are left
-pub record IsCounted (low wide : ℕ) (bits : List Bool) (level start groups upper : ℕ) : Type 0 where
-  pub few : 16 * upper ≤ start
-  pub all : upper + upper_in ((level - low) / 2) groups (drop start bits) ≡ upper_in wide 1 bits
-
-pub counted_starts : (height wide : ℕ) (bits : List Bool) → 2 * wide ≤ height
-    → IsCounted (height - 2 * wide) wide bits height 0 1 0
-counted_starts height wide bits fits =
-    let e : (height - (height - 2 * wide)) / 2 ≡ wide = omega arith in
-    record { few = omega arith; all = rw e (omega arith) }
-
-module _ {low wide : ℕ} {bits : List Bool} {level start groups upper : ℕ}
-    (counted : IsCounted low wide bits level start groups upper) where
-  pub counted_goes_on : {ones more : ℕ} → 0 < level → IsLevel (fan_of (width_below low level)) bits start groups ones
-      → (width_below low level ≡ 2 → more ≡ groups) → (width_below low level ≡ 1 → more ≡ 0)
-      → IsCounted low wide bits (level - width_below low level) (start + fan_of (width_below low level) * groups) ones
-      (upper + more)
-  unfolding upper_in
-  counted_goes_on {ones} {more} some found two one = elim (cases_lt (low + 1) level) [
-    | inl wide_level ↦
-        let on = lt-ltb (low + 1) level wide_level in
-        let w : width_below low level ≡ 2 = rw on refl in
-        let found' : IsLevel 16 bits start groups ones = rw w at found in
-        let here : more ≡ groups = two w in
-        let a : (level - low) / 2 ≡ suc ((level - 2 - low) / 2) = omega arith in
-        let left : upper + (groups + upper_in ((level - 2 - low) / 2) ones (drop (start + 16 * groups) bits))
-        ≡ upper_in wide 1 bits =
-        ap (λ k. upper + (groups + upper_in ((level - 2 - low) / 2) k (drop (start + 16 * groups) bits))) found'.counted
-        ∙ ap (λ bs. upper + (groups + upper_in ((level - 2 - low) / 2) (ones_of (take (16 * groups) (drop start bits)))
-        bs)) (sym (drop-drop (16 * groups) start bits))
-        ∙ (rw a at counted.all) in
-        rw (w, here) (record { few = omega (arith, counted.few); all = omega (arith, left) })
-    | inr narrow ↦
-        let off = le-ltb (low + 1) level narrow in
-        let w : width_below low level ≡ 1 = rw off refl in
-        let here : more ≡ 0 = one w in
-        let a : (level - low) / 2 ≡ 0 = omega arith in
-        let b : (level - 1 - low) / 2 ≡ 0 = omega arith in
-        let all : upper + 0 ≡ upper_in wide 1 bits = rw a at counted.all in
-        rw (w, here) (record { few = omega (arith, counted.few); all = rw b (omega (arith, all)) })
-  ]
-
-  pub counted_ends : level ≡ 0 → upper ≡ upper_in wide 1 bits
-  unfolding upper_in
-  counted_ends end =
-      let a : (level - low) / 2 ≡ 0 = omega arith in
-      let all : upper + 0 ≡ upper_in wide 1 bits = rw a at counted.all in
-      omega (arith, all)

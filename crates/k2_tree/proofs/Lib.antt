@@ -31,6 +31,7 @@ mod PushingLemmas
 mod GroupBitsLemmas
 -- Checking.
 mod CheckingLemmas
+mod CountingLemmas
 mod UpperLemmas
 -- Squares, and walks over them.
 mod StoredLemmas

@@ -21,6 +21,7 @@ mod pruned;
 mod square;
 mod square_walk;
 mod tree;
+mod upper;
 
 pub use building::bits_of_codes;
 pub use fault::TreeFault;

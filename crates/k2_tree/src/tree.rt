@@ -17,7 +17,7 @@ ghost use Rattle.bit_rank.specs.Cost.{window_reads};
 ghost use Rattle.k2_tree.specs.Cost.{child_reads, climb_reads, descent_reads};
 
 use crate::building::split_by_codes;
-use crate::checking::upper_of;
+use crate::checking::find_flaw;
 use crate::climb::code_of_leaf;
 use crate::descent::{child_at, find_leaf};
 use crate::fault::TreeFault;
@@ -29,6 +29,7 @@ use crate::pending::Pending;
 use crate::pruned::Pruned;
 use crate::square::Square;
 use crate::square_walk::SquareWalk;
+use crate::upper::upper_of;
 use arrayvec::ArrayVec;
 use bit_rank::{Bits, NoRoom};
 use std::alloc::Global;
@@ -122,18 +123,40 @@ impl K2Tree {
         ensures exact { OnOk result (tree_flaw (widths_of height wide) bits ≡ None) }
         ensures flaw { IfErr result (λ fault. IsTreeFault height wide bits fault) }
     {
-        match upper_of(&bits, height, wide) {
-            Err(place) => Err(TreeFault::Flaw { place }),
-            Ok(upper) => match Bits::from_list(alloc, bits) {
-                Ok(bits) => Ok(K2Tree {
-                    bits,
-                    height,
-                    wide,
-                    upper,
-                    base,
-                }),
-                Err(NoRoom) => Err(TreeFault::Memory),
-            },
+        if let Some(place) = find_flaw(&bits, height, wide) {
+            return Err(TreeFault::Flaw { place });
+        }
+        match K2Tree::of_bits(alloc, bits, height, wide, base) {
+            Ok(tree) => Ok(tree),
+            Err(Memory) => Err(TreeFault::Memory),
+        }
+    }
+
+    /// The same for bits that are known to be such a tree's, which are not judged again: of the bits, those of the wide
+    /// levels are counted. `Memory` is its only refusal.
+    pub fn of_bits(
+        alloc: Global,
+        bits: BitList,
+        height: u32,
+        wide: u32,
+        base: Cell,
+    ) -> Result<K2Tree, Memory>
+        requires grid { IsGrid height base }
+        requires fits { 2 * wide ≤ height }
+        requires few { length bits ≤ MAX_TREE }
+        requires flawless { tree_flaw (widths_of height wide) bits ≡ None }
+        ensures ok { IfOk result (λ t. StandsFor height wide base bits t) }
+    {
+        let upper = upper_of(&bits, wide);
+        match Bits::from_list(alloc, bits) {
+            Ok(bits) => Ok(K2Tree {
+                bits,
+                height,
+                wide,
+                upper,
+                base,
+            }),
+            Err(NoRoom) => Err(Memory),
         }
     }
 

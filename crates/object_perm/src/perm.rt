@@ -12,7 +12,7 @@ use std::alloc::Global;
 use std::marker::Model;
 use std::sync::ledger::Ledger;
 use step_count::{CountedList, Steps};
-use track_types::List32;
+use track_types::{List32, Memory};
 
 /// A permutation of the places 0 to its length - 1, which are fewer than 2^32.
 ///
@@ -50,6 +50,16 @@ impl Perm {
         if let Some(index) = find_flaw(alloc, list.as_slice())? {
             return Err(PermFault::Flaw { index });
         }
+        Ok(Perm::of_permutation(alloc, list)?)
+    }
+
+    /// The same for a list that is known to be a permutation, which is not judged again. Memory is taken for the shortcuts,
+    /// and for marks of the cycles while the call runs; `Memory` is its only refusal.
+    pub fn of_permutation(alloc: Global, list: List32) -> Result<Perm, Memory>
+        requires short { length list < 2 ^ 32 }
+        requires permutes { PermutesPlaces list }
+        ensures ok { IfOk result (λ perm. perm ≡ list) }
+    {
         let targets = find_shortcuts(alloc, list.as_slice())?;
         let shortcuts = Shortcuts::pack(alloc, targets.as_slice())?;
         Ok(Perm {

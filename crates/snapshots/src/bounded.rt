@@ -1,8 +1,9 @@
-ghost use Rattle.std.specs.Prelude.{◌≡◌, ◌+◌, ◌≤◌, fold, length, map, max, All, IfOk, IsTrue, OnOk};
+ghost use Rattle.std.specs.Prelude.{◌≡◌, ◌+◌, ◌+ℤ◌, ◌≤◌, fold, length, map, max, All, IfOk, IsTrue, OnOk};
 ghost use Rattle.step_count.specs.Reads.{ofPeriod};
 ghost use Rattle.track_types.specs.Boxes.{moved_box};
 ghost use Rattle.track_types.specs.Near.{IsNear};
 ghost use Rattle.box_tree.specs.Boxes.{IsFrom};
+ghost use Rattle.rule_store.specs.Cells.{cell_with};
 ghost use Rattle.rule_store.specs.View.{RulesView};
 ghost use Rattle.snapshots.specs.Bounded.{blocks_bounds, AreFromAnchors};
 ghost use Rattle.snapshots.specs.IndexCost.{blocks_reads};
@@ -74,4 +75,17 @@ fn greatest_speed(bounds: &[PackedBounds]) -> u64
         greatest = greatest.max(log.unpack().speed);
     }
     greatest
+}
+
+/// The cell from which a log begins, whose bounds are counted from the base of the grid.
+pub fn anchor_of(bounds: PackedBounds, base: Cell) -> Cell
+    requires column { IsNear base.x }
+    requires line { IsNear base.y }
+    ensures { result ≡ cell_with (bounds.from.x +ℤ base.x) (bounds.from.y +ℤ base.y) }
+{
+    let from = bounds.unpack().from;
+    Cell {
+        x: from.x + base.x,
+        y: from.y + base.y,
+    }
 }

@@ -155,3 +155,11 @@ pub fn starts_of(alloc: Global, start: u32, lengths: &[u32]) -> Result<List32, M
     }
     Ok(List32::new(starts))
 }
+
+/// The sum of numbers, which fits 32 bits.
+pub fn total(numbers: &[u32]) -> u32
+    requires { sum numbers.now < 2 ^ 32 }
+    ensures { result ≡ sum numbers.now }
+{
+    numbers.iter().sum()
+}

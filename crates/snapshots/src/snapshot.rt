@@ -13,9 +13,6 @@ ghost use Rattle.k2_tree.specs.Pruning.{kept_leaves, square_count, IsKeptFor};
 ghost use Rattle.track_types.specs.declared.cell.Cell.{Cell};
 ghost use Rattle.bit_rank.specs.Cost.{get_reads, select_reads};
 ghost use Rattle.object_perm.specs.Cost.{at_reads};
-ghost use Rattle.std.specs.Prelude.{◌+ℤ◌};
-ghost use Rattle.track_types.specs.Near.{IsNear};
-ghost use Rattle.rule_store.specs.Cells.{cell_with};
 ghost use Rattle.snapshots.specs.Bounded.{AreFromAnchors};
 ghost use Rattle.snapshots.specs.Ones.{first_ones};
 ghost use Rattle.snapshots.specs.Cost.{block_reads, find_reads, first_reads, place_reads, square_reads};
@@ -23,7 +20,8 @@ ghost use Rattle.snapshots.specs.declared.next.Next.TheVariants.{End, Place};
 
 use crate::anchored::Anchored;
 use crate::blocks::{Blocks, without_blocks};
-use crate::checking::{check_perm, check_tree, find_late, flaw, has_cells, instants_in};
+use crate::bounded::anchor_of;
+use crate::checking::{check_perm, check_tree, find_late, flaw, has_cells, instants_in, total};
 use crate::fault::SnapFault;
 use crate::header::Header;
 use crate::members::Members;
@@ -32,6 +30,7 @@ use crate::ones::places_of_ones;
 use crate::period_store::PeriodStore;
 use k2_tree::{K2Tree, Keep};
 use log_bounds::PackedBounds;
+use object_perm::Perm;
 use std::alloc::Global;
 use std::marker::Model;
 use std::rc::Rc;
@@ -144,6 +143,46 @@ impl Snapshot {
             return Err(flaw(number, Section::Lasts, Kind::Cells, lasts.len()));
         }
         let perm = check_perm(alloc, perm, &lasts, number)?;
+        let header = header.clone()?;
+        let store = Blocks::store(
+            alloc, header, tree, present, offsets, lasts, perm, lengths, start,
+        )?;
+        Ok(Snapshot {
+            store,
+            number: std::snapshot::Snapshot::of(&number),
+            start: std::snapshot::Snapshot::of(&start),
+        })
+    }
+
+    /// The same for parts that are known to have no flaw, which are not judged again. `Memory` is its only refusal.
+    ///
+    /// Memory is taken as by `check_under`, but for the marks of the permutation's values.
+    pub fn of_flawless(
+        alloc: Global,
+        header: &Rc<Header>,
+        number: u32,
+        objects: u32,
+        start: u32,
+        parts: PeriodParts,
+    ) -> Result<Snapshot, Memory>
+        requires shaped { IsShapedView (view_with header.now.value number objects start parts) }
+        requires flawless { flaw_of (view_with header.now.value number objects start parts) ≡ None }
+        ensures ok { IfOk result (λ snapshot.
+            snapshot ≡ view_with header.now.value number objects start parts) }
+        ensures sound { OnOk result
+            (IsSoundPeriod (view_with header.now.value number objects start parts)) }
+    {
+        let PeriodParts {
+            present,
+            offsets,
+            tree,
+            lasts,
+            perm,
+            lengths,
+        } = parts;
+        let frame = header.frame();
+        let tree = K2Tree::of_bits(alloc, tree, frame.height, frame.wide_levels(), frame.base)?;
+        let perm = Perm::of_permutation(alloc, perm)?;
         let header = header.clone()?;
         let store = Blocks::store(
             alloc, header, tree, present, offsets, lasts, perm, lengths, start,
@@ -457,25 +496,4 @@ impl Snapshot {
             PeriodStore::Filled { blocks, .. } => blocks,
         }
     }
-}
-
-// The cell from which a log begins, whose bounds are counted from the base of the grid.
-fn anchor_of(bounds: PackedBounds, base: Cell) -> Cell
-    requires column { IsNear base.x }
-    requires line { IsNear base.y }
-    ensures { result ≡ cell_with (bounds.from.x +ℤ base.x) (bounds.from.y +ℤ base.y) }
-{
-    let from = bounds.unpack().from;
-    Cell {
-        x: from.x + base.x,
-        y: from.y + base.y,
-    }
-}
-
-// The sum of numbers, which fits 32 bits.
-fn total(numbers: &[u32]) -> u32
-    requires { sum numbers.now < 2 ^ 32 }
-    ensures { result ≡ sum numbers.now }
-{
-    numbers.iter().sum()
 }

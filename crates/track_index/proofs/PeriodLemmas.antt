@@ -8,7 +8,7 @@ use Rattle.std.proofs.lemmas.List.{get_or_default}
 use Rattle.std.proofs.lemmas.List.Elements.{All-get_or}
 use Rattle.std.proofs.lemmas.List.FromFn.{length-map-range_with_len, map-range_with_len_more}
 use Rattle.std.proofs.lemmas.List.Sums.{sum_by_more, sum_by_more_le}
-use Rattle.list_laws.proofs.FirstLemmas.{first_given-map, first_of_range-at, first_of_range-none}
+use Rattle.list_laws.proofs.FirstLemmas.{first_given-map, first_of_range-all, first_of_range-at, first_of_range-none}
 use Rattle.track_types.specs.Flaws.{IsFormatFaultFor}
 use Rattle.track_types.specs.Frame.{periods_of}
 use Rattle.track_types.specs.Shape.{IsShapedPeriod}
@@ -43,6 +43,15 @@ IsShapedView-at frame objects periods number shaped within =
     shaped.header (omega (arith, within, shaped.many)) shaped.some shaped.few its (omega (arith, most, limit))
 
 module _ (frame : Frame) (objects : ℕ) (periods : List PeriodParts) where
+  -- where the snapshots have no flaw, each has none
+  flawless-at : snapshots_flaw (snapshots_with frame objects periods) ≡ None → (number : ℕ)
+      → number < periods_of frame → flaw_of (snapshot_with frame objects periods number) ≡ None
+  unfolding snapshots_flaw
+  flawless-at none number within =
+      first_of_range-all _ 0 (periods_of frame)
+      (sym (first_given-map flaw_of (snapshot_with frame objects periods) (range_with_len 0 (periods_of frame))) ∙ none)
+      number (omega arith) (omega arith)
+
   module _ (count start : ℕ) (snaps : List SnapshotView) (are : AreChecked frame objects periods count start snaps) where
     -- as many snapshots as periods
     pub length-snaps : length snaps ≡ count
@@ -75,6 +84,11 @@ module _ (frame : Frame) (objects : ℕ) (periods : List PeriodParts) where
       -- it has the form of one
       pub IsShapedView-next : IsShapedView (view_with frame count objects start period)
       IsShapedView-next = subst IsShapedView (sym snapshot-is) (IsShapedView-at frame objects periods count shaped within)
+
+      -- it has no flaw where all have none
+      pub flawless-next : snapshots_flaw (snapshots_with frame objects periods) ≡ None
+          → flaw_of (view_with frame count objects start period) ≡ None
+      flawless-next none = ap flaw_of snapshot-is ∙ flawless-at none count number-within
 
       -- one period more
       pub checked-more : (item : SnapshotView) (next : ℕ) → item ≡ view_with frame count objects start period

@@ -243,11 +243,8 @@ fn judged_valid(alloc: Global, parts: Parts, table: EntryTable) -> Result<Judged
         symbols,
     } = parts;
     let count = objects.as_slice().len() as u32;
-    let snaps = match check_periods(alloc, &frame, count, periods) {
-        Ok(snaps) => snaps,
-        Err(FormatFault::Memory) => return Err(Memory),
-        Err(FormatFault::Flaw(_)) => unreachable!(), // the periods of an index have no flaw
-    };
+    let header = Header::new(alloc, &frame)?;
+    let snaps = flawless_snaps(alloc, &header, count, periods)?;
     Ok(JudgedParts {
         frame,
         objects,
@@ -339,6 +336,29 @@ fn check_each(
         let number = snaps.len() as u32;
         let symbols = symbols_of(period.lengths.as_slice());
         snaps.push(Snapshot::check_under(alloc, header, number, objects, start, period)?)?;
+        start += symbols;
+    }
+    Ok(snaps)
+}
+
+// Takes the parts of all periods, which have no flaw, as their snapshots under a header.
+fn flawless_snaps(
+    alloc: Global,
+    header: &Rc<Header>,
+    objects: u32,
+    periods: PeriodList,
+) -> Result<Vec<Snapshot>, Memory>
+    requires shaped { AreShapedPeriods header.now.value objects periods }
+    requires flawless { snapshots_flaw (snapshots_with header.now.value objects periods) ≡ None }
+    ensures { IfOk result (λ snaps.
+        snaps.items ≡ snapshots_with header.now.value objects periods) }
+{
+    let mut snaps = Vec::with_capacity(alloc, periods.as_slice().len())?;
+    let mut start = 0;
+    for parts in periods.into_vec() {
+        let number = snaps.len() as u32;
+        let symbols = symbols_of(parts.lengths.as_slice());
+        snaps.push(Snapshot::of_flawless(alloc, header, number, objects, start, parts)?)?;
         start += symbols;
     }
     Ok(snaps)

@@ -1,4 +1,4 @@
-use Rattle.std.proofs.Common.{◌≡◌, None, Some, ap, length, refl, subst, sym, ◌∙◌}
+use Rattle.std.proofs.Common.{◌≡◌, None, ap, length, refl, subst, sym, ◌∙◌}
 use Rattle.rule_store.specs.Flaws.{AreRules}
 use Rattle.rule_store.specs.Table.{IsWholeTable}
 use Rattle.rule_store.specs.View.{rules_with}
@@ -6,29 +6,23 @@ use Rattle.rule_store.specs.declared.entry_table.EntryTable.{EntryTable}
 use Rattle.track_types.specs.declared.parts.Parts.{Parts}
 use Rattle.snapshots.specs.Parts.{rules_in}
 use Rattle.snapshots.proofs.NoFlawLemmas.{rules_flaw-sound}
-use Rattle.track_index.specs.CheckFlaws.{snapshots_flaw, snapshots_with, AreShapedPeriods}
+use Rattle.track_index.specs.CheckFlaws.{snapshots_flaw, snapshots_with}
 use Rattle.track_index.proofs.CheckLemmas.{unflawed-valid}
 use Rattle.track_index.proofs.OpeningLemmas.{snapshots_in-read, AreShaped-periods, AreShaped-rules}
 use Rattle.track_index.proofs.opening.judged_valid.Goals as goal
-use Rattle.track_index.proofs.opening.judged_valid.Goals.{After-as_slice}
 
-pub check_periods-requires : goal.check_periods-requires
-check_periods-requires c =
-    subst (λ objects. AreShapedPeriods c.args.parts.frame (length objects) c.args.parts.periods)
-    (sym c.as_slice.ensures) (AreShaped-periods c.args.parts c.requires.valid.shaped (unflawed-valid c.args.parts c.requires.valid).1)
+-- what is known of the periods under the header that is kept
+pub flawless_snaps-requires-clause-shaped : goal.flawless_snaps-requires-clause-shaped
+flawless_snaps-requires-clause-shaped c =
+    let shaped = AreShaped-periods c.args.parts c.requires.valid.shaped (unflawed-valid c.args.parts c.requires.valid).1 in
+    rw (c.in_ok-header.ensures, c.as_slice.ensures) shaped
 
--- the periods have no flaw
-unflawed : (c : After-as_slice) → snapshots_flaw (snapshots_with c.args.parts.frame (length c.as_slice.result.now) c.args.parts.periods) ≡ None
-unflawed c =
+pub flawless_snaps-requires-clause-flawless : goal.flawless_snaps-requires-clause-flawless
+flawless_snaps-requires-clause-flawless c =
+    let none : snapshots_flaw (snapshots_with c.args.parts.frame (length c.as_slice.result.now) c.args.parts.periods) ≡ None =
     ap snapshots_flaw (snapshots_in-read c.args.parts c.as_slice.result.now c.as_slice.ensures)
-    ∙ (unflawed-valid c.args.parts c.requires.valid).2
-
-pub unreachable-requires : goal.unreachable-requires
-unreachable-requires c =
-    let none = unflawed (goal.at.unreachable-requires c).After-as_slice in
-    let some : snapshots_flaw (snapshots_with c.args.parts.frame (length c.as_slice.result.now) c.args.parts.periods)
-    ≡ Some c.in-Err-Flaw.field-0-0 = rw c.in-Err-Flaw.field-0-is at c.in-Err-Flaw.ensures.flaw in
-    cc
+    ∙ (unflawed-valid c.args.parts c.requires.valid).2 in
+    rw c.in_ok-header.ensures none
 
 -- the height and the period are those of the table
 ruled : (table : EntryTable) (parts : Parts) → IsWholeTable (rules_in parts) table
@@ -55,7 +49,9 @@ returns c =
       frame_is = refl;
       objects_are = refl;
       rules_are = c.of_table.ensures ∙ ruled c.args.table c.args.parts c.requires.table;
-      snaps_are = c.in-Ok.ensures.ok ∙ snapshots_in-read c.args.parts c.as_slice.result.now c.as_slice.ensures;
+      snaps_are = c.in_ok-snaps.ensures
+          ∙ ap (λ frame. snapshots_with frame (length c.as_slice.result.now) c.args.parts.periods) c.in_ok-header.ensures
+          ∙ snapshots_in-read c.args.parts c.as_slice.result.now c.as_slice.ensures;
       flawless = none.0;
       total = none.1;
       snapshots = none.2;
