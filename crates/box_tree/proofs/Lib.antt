@@ -12,6 +12,7 @@ pub mod SquareLemmas
 pub mod PlacesLemmas
 mod RunLemmas
 mod DigitsLemmas
+mod ColumnLemmas
 mod BoxesLemmas
 -- Walks.
 mod BeginLemmas

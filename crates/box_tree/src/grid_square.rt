@@ -67,16 +67,28 @@ pub(crate) fn cells_of(alloc: Global, codes: &[u64]) -> Result<Vec<(u32, u32)>, 
     Ok(cells)
 }
 
-// The column of a Morton number: the lower bit of each digit.
+// The column of a Morton number: the lower bit of each digit, taken eight digits at a time.
 fn column_in(code: u64) -> u32
     ensures value { result ≡ morton_column MAX_HEIGHT code }
     ensures small { result < 2 ^ MAX_HEIGHT }
 {
     let mut column = 0;
-    for level in (0..MAX_HEIGHT).rev() {
-        column = 2 * column + ((code >> (2 * level)) % 4 % 2) as u32;
+    for part in (0..MAX_HEIGHT / 8).rev() {
+        column = 256 * column + part_column((code >> (16 * part)) % 65536);
     }
     column
+}
+
+// The same of a number of eight digits: its bits close up by one, by two and by four (H. S. Warren, "Hacker's Delight").
+fn part_column(part: u64) -> u32
+    requires { part < 65536 }
+    ensures value { result ≡ morton_column 8 part }
+    ensures small { result < 256 }
+{
+    let bits = part & 0x5555;
+    let pairs = (bits | bits >> 1) & 0x3333;
+    let nibbles = (pairs | pairs >> 2) & 0x0f0f;
+    ((nibbles | nibbles >> 4) & 0x00ff) as u32
 }
 
 // The column of the child with a digit among those of its square, where the level takes so many

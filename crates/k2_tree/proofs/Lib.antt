@@ -1,6 +1,7 @@
--- Laws for callers: cells and numbers, ascending numbers and their prefixes, levels and groups, squares, areas, walks,
--- flaws, and how many bits.
+-- Laws for callers: cells and numbers, numbers digit by digit, ascending numbers and their prefixes, levels and groups,
+-- squares, areas, walks, flaws, and how many bits.
 pub mod MortonLemmas
+pub mod SpreadLemmas
 pub mod CellLemmas
 pub mod RisingLemmas
 pub mod PrefixLemmas
@@ -24,7 +25,6 @@ mod ParentLemmas
 mod OnLemmas
 mod WayLemmas
 mod ClimbLemmas
-mod SpreadLemmas
 -- Building.
 mod BuildingLemmas
 mod PushingLemmas

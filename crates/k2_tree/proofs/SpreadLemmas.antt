@@ -1,4 +1,4 @@
--- Morton numbers byte by byte.
+-- Morton numbers some digits at a time.
 use Rattle.std.proofs.Common.{◌≡◌, ℕ, zero, suc, ◌+◌, ◌-◌, ◌*◌, ◌/◌, ◌%◌, ◌^◌, ◌<◌, ◌≤◌, ◌==◌, ◌&&◌, Bool, true, refl, sym, ap, ◌∙◌, inl, inr, arith, lit<}
 use Rattle.std.proofs.Math.Nat.{div-one, div-eq_of_lt, pow-suc, pow-le-pow_right}
 use Rattle.std.proofs.Math.Pow.{mod-mod-pow}
@@ -67,36 +67,38 @@ interleaved-split (suc m) n row column =
     let next : suc m + n ≡ suc (m + n) = omega arith in
     rw (next, pow-suc 4 m) (omega (arith, rest))
 
--- one byte more
-pub interleaved-byte : (top byte row column code : ℕ) → 0 < byte → byte ≤ top
-    → code ≡ interleaved (8 * (top - byte)) (row / 2 ^ (8 * byte)) (column / 2 ^ (8 * byte))
-    → 65536 * code + (2 * interleaved 8 0 (row / 2 ^ (8 * (byte - 1))) + interleaved 8 0 (column / 2 ^ (8 * (byte - 1))))
-    ≡ interleaved (8 * (top - (byte - 1))) (row / 2 ^ (8 * (byte - 1))) (column / 2 ^ (8 * (byte - 1)))
-interleaved-byte top byte row column code some within is =
-    let n = 8 * (top - byte) in
-    let r = row / 2 ^ (8 * (byte - 1)) in
-    let c = column / 2 ^ (8 * (byte - 1)) in
-    let next : 8 * (byte - 1) + 8 ≡ 8 * byte = omega arith in
-    let count : 8 * (top - (byte - 1)) ≡ 8 + n = omega arith in
-    let rows : r / 2 ^ 8 ≡ row / 2 ^ (8 * byte) = shr-shr row (8 * (byte - 1)) 8 ∙ ap (λ k. row / 2 ^ k) next in
-    let columns : c / 2 ^ 8 ≡ column / 2 ^ (8 * byte) = shr-shr column (8 * (byte - 1)) 8 ∙ ap (λ k. column / 2 ^ k) next in
-    let split = rw (rows, columns, ← is) at (interleaved-split 8 n r c) in
-    sym (ap (λ m. interleaved m r c) count ∙ split ∙ ap (λ low. 65536 * code + low) (interleaved-parts 8 r c))
+-- sixteen digits more
+pub interleaved-half : (top half row column code : ℕ) → 0 < half → half ≤ top
+    → code ≡ interleaved (16 * (top - half)) (row / 2 ^ (16 * half)) (column / 2 ^ (16 * half))
+    → 4294967296 * code
+    + (2 * interleaved 16 0 (row / 2 ^ (16 * (half - 1))) + interleaved 16 0 (column / 2 ^ (16 * (half - 1))))
+    ≡ interleaved (16 * (top - (half - 1))) (row / 2 ^ (16 * (half - 1))) (column / 2 ^ (16 * (half - 1)))
+interleaved-half top half row column code some within is =
+    let n = 16 * (top - half) in
+    let r = row / 2 ^ (16 * (half - 1)) in
+    let c = column / 2 ^ (16 * (half - 1)) in
+    let next : 16 * (half - 1) + 16 ≡ 16 * half = omega arith in
+    let count : 16 * (top - (half - 1)) ≡ 16 + n = omega arith in
+    let rows : r / 2 ^ 16 ≡ row / 2 ^ (16 * half) = shr-shr row (16 * (half - 1)) 16 ∙ ap (λ k. row / 2 ^ k) next in
+    let columns : c / 2 ^ 16 ≡ column / 2 ^ (16 * half) =
+    shr-shr column (16 * (half - 1)) 16 ∙ ap (λ k. column / 2 ^ k) next in
+    let split = rw (rows, columns, ← is) at (interleaved-split 16 n r c) in
+    sym (ap (λ m. interleaved m r c) count ∙ split ∙ ap (λ low. 4294967296 * code + low) (interleaved-parts 16 r c))
 
 -- the number so far is small
-pub interleaved-few : (height byte row column code : ℕ) → height ≤ MAX_HEIGHT → 0 < byte
-    → code ≡ interleaved (8 * ((height + 7) / 8 - byte)) row column → code < 2 ^ 32
-interleaved-few height byte row column code few some is =
-    let count = 8 * ((height + 7) / 8 - byte) in
+pub interleaved-few : (height half row column code : ℕ) → height ≤ MAX_HEIGHT → 0 < half
+    → code ≡ interleaved (16 * ((height + 15) / 16 - half)) row column → code < 2 ^ 32
+interleaved-few height half row column code few some is =
+    let count = 16 * ((height + 15) / 16 - half) in
     let most : 4 ^ count ≤ 4 ^ 16 = pow-le-pow_right {n = 4} (lit< tt) {i = count} {j = 16} (omega arith) in
     omega (arith, is, interleaved-lt count row column, most)
 
--- bytes that have all digits
+-- halves that have all digits
 pub interleaved-end : (height row column code : ℕ) → row < 2 ^ height → column < 2 ^ height
-    → code ≡ interleaved (8 * ((height + 7) / 8 - 0)) (row / 2 ^ (8 * 0)) (column / 2 ^ (8 * 0)) → code ≡ interleaved height row column
+    → code ≡ interleaved (16 * ((height + 15) / 16 - 0)) (row / 2 ^ (16 * 0)) (column / 2 ^ (16 * 0)) → code ≡ interleaved height row column
 interleaved-end height row column code low narrow is =
-    let j = 8 * ((height + 7) / 8) - height in
-    let count : 8 * ((height + 7) / 8 - 0) ≡ height + j = omega arith in
+    let j = 16 * ((height + 15) / 16) - height in
+    let count : 16 * ((height + 15) / 16 - 0) ≡ height + j = omega arith in
     let split = rw (div-eq_of_lt low, div-eq_of_lt narrow, interleaved-none j) at (interleaved-split height j row column) in
     let whole : code ≡ interleaved (height + j) row column =
     (rw (div-one row, div-one column) at is) ∙ ap (λ n. interleaved n row column) count in

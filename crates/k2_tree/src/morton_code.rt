@@ -57,7 +57,8 @@ fn offset(place: i64, base: i64) -> u64
     place.abs_diff(base)
 }
 
-// The number whose digits to base 4 are made of the bits of a row and a column, the row's above.
+// The number whose digits to base 4 are made of the bits of a row and a column, the row's above. It is
+// made sixteen digits at a time.
 fn interleave(row: u64, column: u64, height: u32) -> u64
     requires low { height ≤ MAX_HEIGHT }
     requires row { row < 2 ^ height }
@@ -65,29 +66,30 @@ fn interleave(row: u64, column: u64, height: u32) -> u64
     ensures { result ≡ interleaved height row column }
 {
     let mut code = 0;
-    for byte in (0..height.div_ceil(8)).rev() {
-        let digits = 2 * spread(row >> (8 * byte)) + spread(column >> (8 * byte));
-        code = (1 << 16) * code + digits;
+    for half in (0..height.div_ceil(16)).rev() {
+        let digits = 2 * spread(row >> (16 * half)) + spread(column >> (16 * half));
+        code = (1 << 32) * code + digits;
     }
     code
 }
 
-// The number whose digits to base 4 are the bits of the lowest byte.
+// The number whose digits to base 4 are the sixteen lowest bits.
 fn spread(number: u64) -> u64
-    ensures value { result ≡ interleaved 8 0 number }
-    ensures small { result < 2 ^ 16 }
+    ensures value { result ≡ interleaved 16 0 number }
+    ensures small { result < 2 ^ 32 }
 {
-    spread_byte(number % 256)
+    spread_half(number % 65536)
 }
 
-// The same of a byte: its bits go apart by four, by two and by one (H. S. Warren, "Hacker's Delight").
-fn spread_byte(byte: u64) -> u64
-    requires { byte < 256 }
-    ensures { result ≡ interleaved 8 0 byte }
+// The same of sixteen bits: they go apart by eight, by four, by two and by one (H. S. Warren, "Hacker's Delight").
+fn spread_half(half: u64) -> u64
+    requires { half < 65536 }
+    ensures { result ≡ interleaved 16 0 half }
 {
-    let nibbles = (byte | byte << 4) & 0x0f0f;
-    let pairs = (nibbles | nibbles << 2) & 0x3333;
-    (pairs | pairs << 1) & 0x5555
+    let bytes = (half | half << 8) & 0x00ff00ff;
+    let nibbles = (bytes | bytes << 4) & 0x0f0f0f0f;
+    let pairs = (nibbles | nibbles << 2) & 0x33333333;
+    (pairs | pairs << 1) & 0x55555555
 }
 
 /// The cell that has the Morton number.

@@ -1,7 +1,6 @@
-use Rattle.std.proofs.Common.{◌≡◌, ◌-◌, ◌/◌, ◌^◌}
+use Rattle.std.proofs.Common.{◌≡◌, ◌-◌, ◌*◌, ◌/◌, ◌^◌}
 use Rattle.k2_tree.specs.Morton.{morton_column}
-use Rattle.track_types.specs.declared.limit.TheConstants.{MAX_HEIGHT}
 use Rattle.box_tree.proofs.grid_square.column_in.Given as goal
 
-abbrev pub invariant-loop-level : goal.invariant-loop-level
-invariant-loop-level l = l.column ≡ morton_column (MAX_HEIGHT - l.level) (l.code / 4 ^ l.level)
+abbrev pub invariant-loop-part : goal.invariant-loop-part
+invariant-loop-part l = l.column ≡ morton_column (8 * (3 - l.part)) (l.code / 2 ^ (16 * l.part))
