@@ -1,3 +1,4 @@
+use Rattle.std.proofs.lemmas.Grind.{common_steps}
 use Rattle.std.proofs.Common.{◌≡◌, ◌+◌, ◌*◌, ◌/◌, ◌≤◌, ℕ, pos, ◌+ℤ◌, w64, to_z, of_z, refl, arith, rules}
 use Rattle.std.proofs.lemmas.Int.{ints, to_z-of_z}
 use Rattle.track_types.specs.Quantities.{elapsed}
@@ -46,3 +47,9 @@ pub returns-clause-begins : goal.returns-clause-begins
 returns-clause-begins c =
     let end = end_is (goal.at.returns-clause-begins c).After-from in
     rw end.0 (omega (arith, ints, end.1, c.requires.after_first))
+
+pub period_at-period-requires-clause-low : goal.period_at-period-requires-clause-low
+period_at-period-requires-clause-low c = search rules
+
+pub overflow_add-result : goal.overflow_add-result
+overflow_add-result c = grind (arith, common_steps)

@@ -1,3 +1,4 @@
+use Rattle.std.proofs.lemmas.Grind.{common_steps}
 use Rattle.std.proofs.Common.{◌≡◌, drop, get_or, arith, rules, w64, to_z, of_z, None}
 use Rattle.std.specs.List.{prefix_len}
 use Rattle.std.proofs.lemmas.Int.{to_z-of_z}
@@ -46,3 +47,9 @@ returns c =
     terminals-ascending timeline.first timeline.period timeline.span c.args.rows.now (omega arith)
     c.requires.ascending c.requires.in_span in
     omega (arith, c.loop-left.invariant.so_far, none, all)
+
+pub loop-left-smaller : goal.loop-left-smaller
+loop-left-smaller c = grind (arith, common_steps)
+
+pub loop-left-init : goal.loop-left-init
+loop-left-init c = search rules

@@ -1,3 +1,4 @@
+use Rattle.std.proofs.lemmas.Grind.{elements}
 use Rattle.std.proofs.Common.{◌≡◌, ◌∙◌, Some, ap, arith, length, refl, rules}
 use Rattle.std.specs.Prelude.{slice_get}
 use Rattle.std.proofs.lemmas.Bool.Decides.{nat_tests}
@@ -18,3 +19,6 @@ returns-in-Some-clause-put c = λ _ rows blocks.
     blocks_pushed rows tracks _ c.args.object c.args.place blocks refl c.args.guess n c.in-Some.places.now _
     (stands ∙ ap Some own) (grind (arith, nat_tests, c.if-length-lt-ROWS.true)) (search rules) length_is c.write.ensures
     refl refl refl refl
+
+pub returns-in_default-2-clause-full : goal.returns-in_default-2-clause-full
+returns-in_default-2-clause-full c = grind (arith, elements)
