@@ -1,8 +1,11 @@
 -- Boxes as they are kept.
-use Rattle.std.proofs.Common.{◌≡◌, ℕ, zero, suc, List, [], ◌∷◌, ◌++◌, length, refl, ap, ◌∙◌, arith, All, Some}
+use Rattle.std.proofs.Common.{◌≡◌, ◌<◌, ◌^◌, ℕ, zero, suc, List, [], ◌∷◌, ◌++◌, length, refl, ap, ◌∙◌, arith, All, Some}
+use Rattle.std.proofs.Common.{ℤ, pos, ◌+ℤ◌, ◌≤ℤ◌, w64, to_z, of_z}
+use Rattle.std.specs.Prelude.{neg_ℤ}
 use Rattle.std.proofs.lemmas.Int.{ints}
 use Rattle.std.proofs.lemmas.List.Elements.{All-weaker}
-use Rattle.track_types.specs.Near.{IsBoxWithin}
+use Rattle.track_types.specs.Near.{IsBoxWithin, IsWithin}
+use Rattle.track_types.specs.declared.limit.TheConstants.{MAX_ASKED}
 use Rattle.std.specs.Prelude.{slice_get}
 use Rattle.std.proofs.lemmas.Option.{same_Some}
 use Rattle.track_types.specs.declared.cell.Cell.{Cell}
@@ -71,3 +74,21 @@ from-within base near boxes each = All-weaker (IsFrom base) IsBoxWithin within b
             omega (arith, ints, near.above, from.above);
       };
     }
+
+-- the least and the greatest coordinate of a box, as words add them: how far from a base, and how far from there
+module _ (base step more : ℤ) (far long : ℕ) (left : neg_ℤ (pos MAX_ASKED) ≤ℤ base) (right : base ≤ℤ pos MAX_ASKED)
+    (steps : step ≡ pos far) (near : far < 2 ^ 32) (mores : more ≡ pos long) (short : long < 2 ^ 32) where
+  abbrev begin : ℤ
+  begin = to_z w64 (of_z w64 base) +ℤ to_z w64 (of_z w64 step)
+
+  pub begins : to_z w64 (of_z w64 begin) ≡ base +ℤ pos far
+  begins = omega (arith, ints)
+
+  pub ends : to_z w64 (of_z w64 (to_z w64 (of_z w64 begin) +ℤ to_z w64 (of_z w64 more))) ≡ base +ℤ pos far +ℤ pos long
+  ends = omega (arith, ints)
+
+  pub begins-within : IsWithin (to_z w64 (of_z w64 begin))
+  begins-within = record { low = omega (arith, ints); high = omega (arith, ints) }
+
+  pub ends-within : IsWithin (to_z w64 (of_z w64 (to_z w64 (of_z w64 begin) +ℤ to_z w64 (of_z w64 more))))
+  ends-within = record { low = omega (arith, ints); high = omega (arith, ints) }

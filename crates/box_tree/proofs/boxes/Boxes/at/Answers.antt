@@ -1,7 +1,6 @@
-use Rattle.std.proofs.Common.{length, slice_get, arith, sym, ap, ◌∙◌, Some}
-use Rattle.std.proofs.lemmas.Int.{ints}
+use Rattle.std.proofs.Common.{◌<◌, ◌^◌, length, slice_get, arith, sym, ap, ◌∙◌, Some}
 use Rattle.track_types.proofs.BoxLemmas.{same_box}
-use Rattle.box_tree.proofs.BoxesLemmas.{boxes_of-at, boxes_of-length}
+use Rattle.box_tree.proofs.BoxesLemmas.{begins, begins-within, boxes_of-at, boxes_of-length, ends, ends-within}
 use Rattle.box_tree.proofs.boxes.Boxes.at.Goals as goal
 
 pub at-corner-requires : goal.at-corner-requires
@@ -22,15 +21,31 @@ at-reach-requires g c =
 pub returns-clause-value : goal.returns-clause-value
 returns-clause-value g c =
     let b = c.self.inside in
+    let is = c.self.invariant.is in
+    let right : c.at-corner.result.0 < 2 ^ 32 = omega arith in
+    let up : c.at-corner.result.1 < 2 ^ 32 = omega arith in
+    let wide : c.at-reach.result.0 < 2 ^ 32 = omega arith in
+    let high : c.at-reach.result.1 < 2 ^ 32 = omega arith in
     ap (λ bs. slice_get bs c.args.place) (sym c.self.view_is)
     ∙ boxes_of-at b.base b.corners b.reaches c.args.place c.at-corner.result c.at-reach.result
     c.at-corner.ensures.value c.at-reach.ensures.value
-    ∙ ap Some (same_box _ _ (omega (arith, ints)) (omega (arith, ints)) (omega (arith, ints)) (omega (arith, ints)))
+    ∙ ap Some (same_box _ _
+    (sym (begins b.base.x _ _ _ _ is.left is.right c.from.ensures right c.from-3.ensures wide))
+    (sym (begins b.base.y _ _ _ _ is.below is.above c.from-2.ensures up c.from-4.ensures high))
+    (sym (ends b.base.x _ _ _ _ is.left is.right c.from.ensures right c.from-3.ensures wide))
+    (sym (ends b.base.y _ _ _ _ is.below is.above c.from-2.ensures up c.from-4.ensures high)))
 
 pub returns-clause-within : goal.returns-clause-within
-returns-clause-within g c = record {
-  x1 = record { low = omega (arith, ints); high = omega (arith, ints) };
-  y1 = record { low = omega (arith, ints); high = omega (arith, ints) };
-  x2 = record { low = omega (arith, ints); high = omega (arith, ints) };
-  y2 = record { low = omega (arith, ints); high = omega (arith, ints) };
-}
+returns-clause-within g c =
+    let b = c.self.inside in
+    let is = c.self.invariant.is in
+    let right : c.at-corner.result.0 < 2 ^ 32 = omega arith in
+    let up : c.at-corner.result.1 < 2 ^ 32 = omega arith in
+    let wide : c.at-reach.result.0 < 2 ^ 32 = omega arith in
+    let high : c.at-reach.result.1 < 2 ^ 32 = omega arith in
+    record {
+      x1 = begins-within b.base.x _ _ _ _ is.left is.right c.from.ensures right c.from-3.ensures wide;
+      y1 = begins-within b.base.y _ _ _ _ is.below is.above c.from-2.ensures up c.from-4.ensures high;
+      x2 = ends-within b.base.x _ _ _ _ is.left is.right c.from.ensures right c.from-3.ensures wide;
+      y2 = ends-within b.base.y _ _ _ _ is.below is.above c.from-2.ensures up c.from-4.ensures high;
+    }

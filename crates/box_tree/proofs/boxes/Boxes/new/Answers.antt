@@ -1,5 +1,6 @@
 use Rattle.std.proofs.Common.{◌≡◌, ℕ, ◌<◌, [], ◌∷◌, ◌++◌, length, take, pos, ◌+ℤ◌, sym}
 use Rattle.std.proofs.Common.{ap, ◌∙◌, arith, length-append}
+use Rattle.std.proofs.lemmas.Grind.{common_steps}
 use Rattle.std.proofs.lemmas.Int.{ints}
 use Rattle.std.proofs.lemmas.List.{take_more}
 use Rattle.track_types.specs.Near.{IsBoxWithin}
@@ -97,3 +98,6 @@ loop-area-preserved c =
         length-append l.reaches.items (reach ∷ []),
       );
     }
+
+pub returns : goal.returns
+returns c = grind (arith, common_steps)
