@@ -1,3 +1,4 @@
+use Rattle.std.proofs.lemmas.Grind.{common_steps}
 use Rattle.std.proofs.Common.{◌≡◌, ◌+◌, ◌-◌, ◌*◌, take, drop, length, arith}
 use Rattle.track_types.specs.Numeral.{magnitude_of}
 use Rattle.track_types.proofs.Digits.{IsReadTo, IsReadTo-all, IsReadTo-below, IsReadTo-places, next_digits, read_next}
@@ -43,3 +44,12 @@ overflow_add-value c =
 
 pub loop-left-preserved : goal.loop-left-preserved
 loop-left-preserved c = four_read c
+
+pub returns-in_err-value-clause-none : goal.returns-in_err-value-clause-none
+returns-in_err-value-clause-none c = grind (arith, common_steps)
+
+pub returns-else-is_empty-2-clause-decimal : goal.returns-else-is_empty-2-clause-decimal
+returns-else-is_empty-2-clause-decimal c = grind (arith, common_steps)
+
+pub returns-else-is_empty-2-clause-within : goal.returns-else-is_empty-2-clause-within
+returns-else-is_empty-2-clause-within c = grind (arith, common_steps)
