@@ -1,3 +1,4 @@
+use Rattle.std.proofs.lemmas.Grind.{common_steps}
 use Rattle.std.proofs.Common.{◌<◌, arith, length}
 use Rattle.question_shell.specs.Session.{meaning_by}
 use Rattle.question_shell.proofs.CountLemmas.{asked_kept}
@@ -14,3 +15,6 @@ returns-clause-ok g c steps =
     c.hold.new.self inside (rw c.is_held.ensures.value at c.if-is_held.false) c.hold.ensures
     (simp (asked_kept c.args.from near.1, asked_kept c.args.to near.2) at c.in_ok-walk.ensures.left)
     (simp (asked_kept c.args.from near.1, asked_kept c.args.to near.2) at c.in_ok-walk.ensures.budget)
+
+pub returns-in_err-walk-clause-takes : goal.returns-in_err-walk-clause-takes
+returns-in_err-walk-clause-takes g c = grind (arith, common_steps)

@@ -1,3 +1,4 @@
+use Rattle.std.proofs.lemmas.Grind.{common_steps}
 use Rattle.std.proofs.Common.{◌∷◌, [], ◌++◌, refl, arith, length-append}
 use Rattle.question_shell.proofs.DrawingLemmas.{gives-more, gives-nothing}
 use Rattle.question_shell.proofs.counting.count_left.Goals as goal
@@ -17,3 +18,6 @@ items-preserved g c =
       gives = gives-more read.gives c.in-Some.ensures.gives;
       count = omega (arith, read.count, length-append read.done (c.in-Some.field-0 ∷ []));
     }
+
+pub overflow_add-count : goal.overflow_add-count
+overflow_add-count g c = grind (arith, common_steps)

@@ -1,3 +1,4 @@
+use Rattle.std.proofs.lemmas.Grind.{common_steps}
 use Rattle.std.proofs.Common.{◌∙◌, ◌∷◌, [], ◌++◌, ap, map, None, refl, arith, length-append}
 use Rattle.std.proofs.lemmas.Result.{err_from_is_err_and}
 use Rattle.question_shell.specs.Items.{line_of}
@@ -56,3 +57,6 @@ returns-clause-told g c =
     (ap (map item.Stop) last.none)
     (c.ok_line.ensures ∙ ap ok_line read.count)
     read.says c.put.ensures.told
+
+pub overflow_add-count : goal.overflow_add-count
+overflow_add-count g c = grind (arith, common_steps)

@@ -1,3 +1,4 @@
+use Rattle.std.proofs.lemmas.Grind.{common_steps}
 use Rattle.std.proofs.Common.{◌<◌, ◌∙◌, sym, arith, length, map, set, Some}
 use Rattle.std.specs.Prelude.{option_map, option_to_list}
 use Rattle.question_shell.proofs.DeskLemmas.{IsDrawn, draws-cost, draws-found, draws-held, draws-others}
@@ -41,3 +42,21 @@ returns-clause-held g c = draws-held (drawn g (goal.at.returns-clause-held g c).
 
 pub returns-clause-others : goal.returns-clause-others
 returns-clause-others g c = draws-others (drawn g (goal.at.returns-clause-others g c).After-draw)
+
+pub returns-in_default-clause-found : goal.returns-in_default-clause-found
+returns-in_default-clause-found g c = grind (arith, common_steps)
+
+pub returns-in_default-clause-none : goal.returns-in_default-clause-none
+returns-in_default-clause-none g c = grind (arith, common_steps)
+
+pub returns-in_default-clause-cost : goal.returns-in_default-clause-cost
+returns-in_default-clause-cost g c = grind (arith, common_steps)
+
+pub returns-in_default-clause-held : goal.returns-in_default-clause-held
+returns-in_default-clause-held g c = grind (arith, common_steps)
+
+pub returns-in_default-clause-others : goal.returns-in_default-clause-others
+returns-in_default-clause-others g c = grind (arith, common_steps)
+
+pub returns-clause-none : goal.returns-clause-none
+returns-clause-none g c = grind (arith, common_steps)
