@@ -1,4 +1,6 @@
-use Rattle.std.proofs.Common.{ℕ, List, sym, subst, ap, ◌∙◌}
+use Rattle.std.proofs.Common.{arith}
+use Rattle.std.proofs.lemmas.Grind.{elements}
+use Rattle.std.proofs.Common.{List, sym, ap, ◌∙◌}
 use Rattle.std.specs.Option.{option_map}
 use Rattle.track_types.specs.Meeting.{meeting_at}
 use Rattle.track_types.specs.declared.stop.Stop.{Stop}
@@ -56,3 +58,6 @@ returns-clause-ok g c =
     (remaining c.in_ok-right.right).stops)) one
     ∙ ap (λ stops. option_map meeting_at (meeting_among window.from window.to window.reach
     (stops_in c.args.stores.now c.args.places.left c.args.period) stops)) other
+
+pub returns-clause-cost : goal.returns-clause-cost
+returns-clause-cost g c = grind (arith, elements)
