@@ -1,3 +1,5 @@
+use Rattle.std.proofs.Common.{arith}
+use Rattle.std.proofs.lemmas.Grind.{common_steps}
 use Rattle.std.proofs.Common.{◌≡◌, rules, refl, ◌∙◌, ap, w64, to_z, of_z}
 use Rattle.std.specs.Prelude.{FitsSigned}
 use Rattle.std.proofs.lemmas.Int.{to_z-of_z}
@@ -23,3 +25,6 @@ returns c =
     let height : c.height_for.result ≡ height_for (extent_of rows) =
     c.height_for.ensures ∙ ap height_for (c.width.ensures rows are) in
     rw (first, timeline.span, timeline.period, height, left, below, c.cell.ensures.value, c.tick.ensures.value) refl
+
+pub height_for-requires : goal.height_for-requires
+height_for-requires c = grind (arith, common_steps)

@@ -1,3 +1,4 @@
+use Rattle.std.proofs.lemmas.Grind.{common_steps}
 use Rattle.std.proofs.Common.{◌≡◌, Bool, true, ◌∙◌, ◌+◌, ◌-◌, ◌++◌, ◌∷◌, [], add-one, ap, arith, get_or, sym, take}
 use Rattle.std.specs.Prelude.{slice_set}
 use Rattle.std.proofs.Math.Seq.{take-suc}
@@ -24,3 +25,6 @@ loop-head-preserved c =
     ap (λ bits. slice_set bits head.index true) c.loop-head.invariant
     ∙ sym (ap (presence_of c.args.objects) first
     ∙ presence_of-snoc (take i heads) head c.args.objects (c.requires i no_head c.loop-head-test.true))
+
+pub returns : goal.returns
+returns c = grind (arith, common_steps)
