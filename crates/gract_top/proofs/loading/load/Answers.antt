@@ -1,3 +1,5 @@
+use Rattle.std.proofs.Common.{arith}
+use Rattle.std.proofs.lemmas.Grind.{common_steps}
 use Rattle.std.proofs.Common.{◌<◌, ◌∙◌, ap, refl, rules, List, length, take, length-take}
 use Rattle.history.specs.Loads.{Load, with_piece}
 use Rattle.gract_top.proofs.LoadingLemmas.{IsLengthRefused-past, IsLoaded-end}
@@ -28,3 +30,9 @@ returns-then-count-limit-clause-fault g c =
           c.pieces.invariant.opened c.in_ok-came.ensures.read.0 added (search rules) (search (rules, length-take c.in_ok-came.came c.pull.new.buf))
           (search rules),
     )
+
+pub pieces-preserved : goal.pieces-preserved
+pieces-preserved g c = grind (arith, common_steps)
+
+pub take-requires : goal.take-requires
+take-requires g c = grind (arith, common_steps)
