@@ -31,7 +31,7 @@ impl Region {
         match *self {
             Region::Rect { x1, y1, x2, y2 } => Shape::Rect { x1, y1, x2, y2 }.contains(cell),
             Region::Disc { x, y, r } => Shape::Disc { x, y, r }.contains(cell),
-            Region::Any { shapes } => any_contains(shapes.as_slice(), cell),
+            Region::Any { ref shapes } => any_contains(shapes.as_slice(), cell),
         }
     }
 
@@ -55,7 +55,7 @@ impl Region {
         match *self {
             Region::Rect { x1, y1, x2, y2 } => Shape::Rect { x1, y1, x2, y2 }.intersects(area),
             Region::Disc { x, y, r } => Shape::Disc { x, y, r }.intersects(area),
-            Region::Any { shapes } => any_intersects(shapes.as_slice(), area),
+            Region::Any { ref shapes } => any_intersects(shapes.as_slice(), area),
         }
     }
 }
