@@ -49,10 +49,10 @@ pub struct OutlineBlock {
     pub index: u32,
     /// How many instants the anchor is after the period's first.
     pub offset: u32,
-    /// The anchor's cell, counted from the base: from 0 to `2^height - 1` along each axis.
-    pub cell: Cell,
     /// How many symbols the log has.
     pub length: u32,
+    /// The anchor's cell, counted from the base: from 0 to `2^height - 1` along each axis.
+    pub cell: Cell,
 }
 
 /// A list of blocks, in order.
