@@ -5,6 +5,7 @@ pub mod FlawLemmas
 pub mod LogLemmas
 pub mod NodeLemmas
 pub mod NeedsLemmas
+mod EntriesLemmas
 mod PackLemmas
 mod StoredLemmas
 pub mod TableLemmas

@@ -9,7 +9,7 @@ use Rattle.list_laws.specs.Grown.{table_of_rules}
 use Rattle.list_laws.proofs.GrownLemmas.{length-table_of_rules, table_of_rules-append, table_of_rules-keeps}
 use Rattle.rule_store.specs.View.{RulesView, rules_with, symbols_in}
 use Rattle.rule_store.specs.Expansion.{depth_above, depth_of, expansion_of, values_of}
-use Rattle.rule_store.specs.Stored.{IsPackedEntry}
+use Rattle.rule_store.specs.Stored.{entries_of, IsPackedEntry}
 use Rattle.rule_store.specs.Table.{IsTableOf, symbols_of}
 use Rattle.rule_store.specs.declared.entry_table.EntryTable.{EntryTable}
 use Rattle.rule_store.proofs.ExpansionLemmas.{depth_of-terminal, values_of-terminal}
@@ -66,7 +66,7 @@ module _ (view : RulesView) (rule : ℕ × ℕ) where
       each = λ symbol other within.
           let entry = known.entries.each symbol other within in
           record {
-            values = subst (λ values. IsPackedEntry values (get_or table.entries.items symbol other))
+            values = subst (λ values. IsPackedEntry values (get_or (entries_of table.entries) symbol other))
                 (sym (values_of-with_rule symbol (omega (arith, few)))) entry.values;
             depth = entry.depth ∙ sym (depth_of-with_rule symbol (omega (arith, few)));
             shallow = entry.shallow;
@@ -90,7 +90,7 @@ table-with_value view value table few known = record {
         ∙ ap (λ v. v ∷ []) (get_or-append view.alphabet (value ∷ []) 0 symbol short)
         ∙ sym (values_of-terminal view symbol short) in
         record {
-          values = subst (λ vs. IsPackedEntry vs (get_or table.entries.items symbol other)) (sym values) entry.values;
+          values = subst (λ vs. IsPackedEntry vs (get_or (entries_of table.entries) symbol other)) (sym values) entry.values;
           depth = entry.depth ∙ depth_of-terminal view symbol short ∙ sym (depth_of-terminal (with_value view value) symbol longer);
           shallow = entry.shallow;
         };

@@ -1,12 +1,15 @@
--- What a rule store keeps of each symbol, packed into 32 bytes, and how its entries follow from its rules.
-use Rattle.std.specs.Prelude.{◌≡◌, ℕ, ◌^◌, ◌<◌, ◌≤◌, ◌<ℤ◌, List, length, get_or, Option, Some, None}
+-- What a rule store keeps of each symbol, packed into 32 bytes or 16, and how its entries follow from its rules.
+use Rattle.std.specs.Prelude.{◌≡◌, ℕ, ◌^◌, ◌<◌, ◌≤◌, ◌<ℤ◌, List, length, get_or, map, Option, Some, None}
 use Rattle.track_types.specs.declared.cell_box.CellBox.{CellBox}
 use Rattle.rule_store.specs.View.{RulesView, rules_with, symbols_in}
 use Rattle.rule_store.specs.Expansion.{depth_in, depth_of, values_of}
 use Rattle.rule_store.specs.Cells.{displacement_of}
 use Rattle.rule_store.specs.Boxes.{bounding_box_of}
 use Rattle.rule_store.specs.Flaws.{AreRules, left_of, right_of}
+use Rattle.rule_store.specs.declared.narrow_entry.NarrowEntry.{NarrowEntry}
 use Rattle.rule_store.specs.declared.packed_box.PackedBox.{PackedBox}
+use Rattle.rule_store.specs.declared.packed_entries.PackedEntries.{PackedEntries}
+use Rattle.rule_store.specs.declared.packed_entries.PackedEntries.TheVariants.{Narrow, Wide}
 use Rattle.rule_store.specs.declared.packed_entry.PackedEntry.{PackedEntry}
 use Rattle.rule_store.specs.declared.raw_rules.RawRules.{RawRules}
 
@@ -15,6 +18,23 @@ abbrev pub IsHull : PackedBox → Option CellBox → Type 0
 IsHull packed None = packed.x2 <ℤ packed.x1
 IsHull packed (Some box) =
     (packed.x1 ≡ box.x1) × (packed.y1 ≡ box.y1) × (packed.x2 ≡ box.x2) × (packed.y2 ≡ box.y2)
+
+-- the entry in 32 bytes that has the numbers of one in 16
+abbrev pub widened : NarrowEntry → PackedEntry
+widened narrow = record {
+  duration = narrow.duration;
+  depth = narrow.depth;
+  dx = narrow.dx;
+  dy = narrow.dy;
+  hull = record { x1 = narrow.x1; y1 = narrow.y1; x2 = narrow.x2; y2 = narrow.y2; high = narrow.high };
+  short = narrow.short;
+  shallow = narrow.shallow;
+}
+
+-- the entries of a list, however wide it keeps them
+unfoldable pub entries_of : PackedEntries → List PackedEntry
+entries_of (Narrow entries) = map widened entries.items
+entries_of (Wide entries) = entries.items
 
 -- the packed entry is that of a symbol which stands for these values
 pub record IsPackedEntry (values : List ℕ) (packed : PackedEntry) : Type 0 where

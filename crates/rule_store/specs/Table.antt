@@ -2,18 +2,18 @@
 use Rattle.std.specs.Prelude.{◌≡◌, ℕ, ◌+◌, ◌<◌, length}
 use Rattle.rule_store.specs.View.{RulesView, symbols_in}
 use Rattle.rule_store.specs.Flaws.{rule_parts}
-use Rattle.rule_store.specs.Stored.{AreEntries}
+use Rattle.rule_store.specs.Stored.{entries_of, AreEntries}
 use Rattle.rule_store.specs.declared.entry_table.EntryTable.{EntryTable}
 
 -- how many symbols a table has entries of
 abbrev pub symbols_of : EntryTable → ℕ
-symbols_of table = length table.entries.items
+symbols_of table = length (entries_of table.entries)
 
 -- the table has the entries of the first symbols of these rules, and judges by their height and period
 pub record IsTableOf (view : RulesView) (table : EntryTable) : Type 0 where
   pub height : table.height ≡ view.height
   pub period : table.period ≡ view.period
-  pub entries : AreEntries view table.entries.items
+  pub entries : AreEntries view (entries_of table.entries)
 
 -- the table has the entries of all symbols of the rules, and judges by their height and period
 pub record IsWholeTable (view : RulesView) (table : EntryTable) : Type 0 where

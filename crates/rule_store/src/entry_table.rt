@@ -5,10 +5,11 @@ ghost use Rattle.track_types.specs.declared.limit.TheConstants.{MAX_HEIGHT, MAX_
 ghost use Rattle.rule_store.specs.View.{RulesView};
 ghost use Rattle.rule_store.specs.Entry.{entry_of, IsEntryWithin};
 ghost use Rattle.rule_store.specs.Flaws.{is_far, is_rule_flawed, leads_out, reach_limit};
-ghost use Rattle.rule_store.specs.Stored.{AreShallow, IsEntryOf};
+ghost use Rattle.rule_store.specs.Stored.{entries_of, AreShallow, IsEntryOf};
 
 use crate::entry::Entry;
 use crate::joining::{join, terminal_entry};
+use crate::packed_entries::PackedEntries;
 use crate::packed_entry::PackedEntry;
 use std::alloc::Global;
 use track_types::Memory;
@@ -20,13 +21,13 @@ use track_types::Memory;
 /// these are.
 #[derive(Drop)]
 pub struct EntryTable {
-    entries: Vec<PackedEntry>,
+    entries: PackedEntries,
     pub(crate) height: u32,
     pub(crate) period: u32,
     ghost height_fits: { height ≤ MAX_HEIGHT },
     ghost some: { 0 < period },
     ghost period_fits: { period ≤ MAX_PERIOD },
-    ghost shallow: { AreShallow entries.items } by { Prim.hlevel props },
+    ghost shallow: { AreShallow (entries_of entries) } by { Prim.hlevel props },
 }
 
 impl EntryTable {
@@ -42,7 +43,7 @@ impl EntryTable {
         ensures entries { (view : RulesView) → height ≡ view.height → period ≡ view.period → IsTableOf view result }
     {
         EntryTable {
-            entries: Vec::new(alloc),
+            entries: PackedEntries::new(alloc, height, period),
             height,
             period,
         }
@@ -63,15 +64,15 @@ impl EntryTable {
             → IsTableOf view table) }
     {
         Ok(EntryTable {
-            entries: Vec::with_capacity(alloc, count)?,
+            entries: PackedEntries::with_room(alloc, height, period, count)?,
             height,
             period,
         })
     }
 
     /// The entries, symbol by symbol.
-    pub(crate) fn into_entries(self) -> Vec<PackedEntry>
-        ensures { result.items ≡ self.entries.items }
+    pub(crate) fn into_entries(self) -> PackedEntries
+        ensures { result ≡ self.entries }
     {
         self.entries
     }
@@ -120,7 +121,7 @@ impl EntryTable {
         ensures value { (view : RulesView) → IsTableOf view self.now → result ≡ entry_of view symbol }
         ensures within { IsEntryWithin result }
     {
-        self.entries[symbol as usize].unpack(symbol)
+        self.entries.at(symbol as usize).unpack(symbol)
     }
 
     // The entry of the next rule, from those of its parts; none where the rule is flawed.
@@ -136,7 +137,7 @@ impl EntryTable {
         if left >= self.entries.len() || right >= self.entries.len() {
             return None;
         }
-        let (left, right) = (self.entries[left], self.entries[right]);
+        let (left, right) = (self.entries.at(left), self.entries.at(right));
         let entry = join(self.entries.len() as u32, left, right);
         if self.is_far(&entry) {
             return None;

@@ -7,10 +7,10 @@ use track_types::CellBox;
 /// The box of an entry in 16 bytes. Where there is none, the bounds of its columns cross.
 #[derive(Clone, Copy)]
 pub(crate) struct PackedBox {
-    x1: i32,
-    y1: i32,
-    x2: i32,
-    y2: i32,
+    pub(crate) x1: i32,
+    pub(crate) y1: i32,
+    pub(crate) x2: i32,
+    pub(crate) y2: i32,
     ghost high: { x1 ≤ℤ x2 → y1 ≤ℤ y2 },
 }
 

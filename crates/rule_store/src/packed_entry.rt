@@ -11,8 +11,8 @@ use crate::packed_box::PackedBox;
 pub(crate) struct PackedEntry {
     pub(crate) duration: u32,
     pub(crate) depth: u32,
-    dx: i32,
-    dy: i32,
+    pub(crate) dx: i32,
+    pub(crate) dy: i32,
     pub(crate) hull: PackedBox,
     ghost short: { duration ≤ MAX_PERIOD },
     ghost shallow: { depth ≤ 2 ^ 26 },

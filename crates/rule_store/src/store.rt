@@ -5,7 +5,7 @@ ghost use Rattle.rule_store.specs.View.{rules_with, symbols_in, AreShapedRules};
 ghost use Rattle.rule_store.specs.Expansion.{depth_in, depth_of};
 ghost use Rattle.rule_store.specs.Entry.{entry_of, IsEntryWithin};
 ghost use Rattle.rule_store.specs.Flaws.{rules_flaw, AreRules, IsRuleFaultFor, left_of, right_of};
-ghost use Rattle.rule_store.specs.Stored.{IsEntryOf, IsReadRule};
+ghost use Rattle.rule_store.specs.Stored.{entries_of, IsEntryOf, IsReadRule};
 ghost use Rattle.rule_store.specs.Table.{IsWholeTable};
 ghost use Rattle.rule_store.specs.Cost.{parts_reads};
 
@@ -13,6 +13,7 @@ use crate::entry::Entry;
 use crate::entry_table::EntryTable;
 use crate::fault::RuleFault;
 use crate::log_view::LogView;
+use crate::packed_entries::PackedEntries;
 use crate::packed_entry::PackedEntry;
 use crate::raw_rules::RawRules;
 use std::alloc::Global;
@@ -30,7 +31,7 @@ pub struct RuleStore {
     alphabet: CountedList<u64>,
     rules: CountedList<(u32, u32)>,
     symbols: CountedList<u32>,
-    entries: Vec<PackedEntry>,
+    entries: PackedEntries,
     depth: u32,
     height: u32,
     period: u32,
@@ -38,14 +39,14 @@ pub struct RuleStore {
 
 impl Model for RuleStore {
     ghost use Rattle.rule_store.specs.View.{RulesView, rules_with};
-    ghost use Rattle.rule_store.specs.Stored.{AreStoredRules};
+    ghost use Rattle.rule_store.specs.Stored.{entries_of, AreStoredRules};
 
     ghost Value = { RulesView };
 
     ghost view = { λ s. rules_with s.alphabet s.rules s.symbols s.height s.period };
 
     ghost invariant = { λ s. AreStoredRules (rules_with s.alphabet s.rules s.symbols s.height s.period)
-        s.entries.items s.depth };
+        (entries_of s.entries) s.depth };
 }
 
 impl RuleStore {
@@ -62,7 +63,8 @@ impl RuleStore {
     ///
     /// The alphabet ascends; it, the rules and the symbols have at most `MAX_SYMBOLS` members each;
     /// `height` is 1 to `MAX_HEIGHT` and `period` 1 to `MAX_PERIOD`. Memory is taken for the entries,
-    /// 32 bytes for each symbol of the grammar.
+    /// 16 bytes for each symbol of the grammar where `height` is at most 15 and `period` at most 65,535,
+    /// else 32.
     pub fn check(
         alloc: Global,
         alphabet: List64,
@@ -102,7 +104,7 @@ impl RuleStore {
             return Err(RuleFault::Symbol { index });
         }
         let entries = table.into_entries();
-        let depth = greatest_depth(entries.as_slice());
+        let depth = greatest_depth(&entries);
         Ok(RuleStore {
             alphabet: CountedList::new(alphabet.into_vec()),
             rules: CountedList::new(rules.into_vec()),
@@ -130,7 +132,7 @@ impl RuleStore {
     {
         let (height, period) = (table.height, table.period);
         let entries = table.into_entries();
-        let depth = greatest_depth(entries.as_slice());
+        let depth = greatest_depth(&entries);
         RuleStore {
             alphabet: CountedList::new(alphabet.into_vec()),
             rules: CountedList::new(rules.into_vec()),
@@ -260,18 +262,18 @@ impl RuleStore {
         ensures entry { IsEntryOf self.now symbol result }
         ensures rules { AreRules self.now }
     {
-        self.entries[symbol as usize]
+        self.entries.at(symbol as usize)
     }
 }
 
 // The depth of the deepest symbol.
-fn greatest_depth(entries: &[PackedEntry]) -> u32
-    ensures value { result ≡ fold (λ deepest entry. max deepest entry.depth) 0 entries.now }
+fn greatest_depth(entries: &PackedEntries) -> u32
+    ensures value { result ≡ fold (λ deepest entry. max deepest entry.depth) 0 (entries_of entries.now) }
     ensures within { result ≤ 2 ^ 26 }
 {
     let mut depth = 0;
-    for entry in entries {
-        depth = depth.max(entry.depth);
+    for place in 0..entries.len() {
+        depth = depth.max(entries.at(place).depth);
     }
     depth
 }

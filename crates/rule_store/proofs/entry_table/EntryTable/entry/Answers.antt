@@ -8,7 +8,7 @@ use Rattle.rule_store.proofs.entry_table.EntryTable.entry.Goals as goal
 pub returns-clause-value : goal.returns-clause-value
 unfolding entry_of
 returns-clause-value c = λ view known.
-    let packed : PackedEntry = c.index.result.now in
+    let packed : PackedEntry = c.at.result in
     let is : IsEntryOf view c.args.symbol packed =
-    subst (IsEntryOf view c.args.symbol) (sym c.index.ensures) (known.entries.each c.args.symbol packed c.requires) in
+    subst (IsEntryOf view c.args.symbol) (sym c.at.ensures) (known.entries.each c.args.symbol packed c.requires) in
     c.unpack.ensures.value (values_of view c.args.symbol) is.values

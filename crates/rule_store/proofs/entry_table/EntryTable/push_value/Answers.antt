@@ -2,7 +2,7 @@ use Rattle.std.proofs.Common.{◌≡◌, ℕ, ◌+◌, ◌*◌, ◌<◌, ◌≤�
 use Rattle.std.specs.Prelude.{not}
 use Rattle.spiral_code.specs.Spiral.{ring_of, square}
 use Rattle.rule_store.specs.Flaws.{leads_out, reach_limit}
-use Rattle.rule_store.specs.Stored.{AreEntries, IsEntryOf, IsPackedEntry}
+use Rattle.rule_store.specs.Stored.{entries_of, AreEntries, IsEntryOf, IsPackedEntry}
 use Rattle.rule_store.proofs.ExpansionLemmas.{depth_of-terminal, values_of-terminal}
 use Rattle.rule_store.proofs.FlawLemmas.{box_passes-higher, leads_out-above, leads_out-below, reach_limit-high}
 use Rattle.rule_store.proofs.StoredLemmas.{entries-more, terminal-box, terminal-reach}
@@ -41,7 +41,7 @@ returns-clause-judged c = ap not (sym (short (goal.at.returns-clause-judged c).A
 
 pub returns-clause-entries : goal.returns-clause-entries
 returns-clause-entries c = λ taken view known within is.
-    let place : ℕ = length c.args.self.now.entries.items in
+    let place : ℕ = length (entries_of c.args.self.now.entries) in
     let packed : IsPackedEntry (c.args.value ∷ []) c.pack.result =
     c.pack.ensures.packed c.len.result (c.args.value ∷ []) c.terminal_entry-entry.ensures in
     let here : IsEntryOf view place c.pack.result = record {
@@ -53,6 +53,6 @@ returns-clause-entries c = λ taken view known within is.
     record {
       height = known.height;
       period = known.period;
-      entries = subst (AreEntries view) (sym c.in_ok-push.ensures.items)
-          (entries-more view c.args.self.now.entries.items c.pack.result known.entries here);
+      entries = subst (AreEntries view) (sym c.in_ok-push.ensures)
+          (entries-more view (entries_of c.args.self.now.entries) c.pack.result known.entries here);
     }

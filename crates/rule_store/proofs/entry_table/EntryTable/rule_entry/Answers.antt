@@ -2,7 +2,7 @@ use Rattle.std.proofs.Common.{◌≡◌, ℕ, ◌+◌, ◌<◌, length, true, fa
 use Rattle.std.specs.Prelude.{Bool}
 use Rattle.rule_store.specs.Entry.{entry_of}
 use Rattle.rule_store.specs.Flaws.{is_far}
-use Rattle.rule_store.specs.Stored.{IsEntryOf}
+use Rattle.rule_store.specs.Stored.{entries_of, IsEntryOf}
 use Rattle.rule_store.specs.Table.{IsNextRule}
 use Rattle.rule_store.specs.View.{RulesView}
 use Rattle.rule_store.specs.declared.entry.Entry.{Entry}
@@ -22,27 +22,26 @@ record IsJoined (view : RulesView) (rule : ℕ) (parts : ℕ × ℕ) (left right
   pub entry_is : entry ≡ entry_of view (length view.alphabet + rule)
 
 joined : (c : After-join-entry) (view : RulesView) (j : ℕ) → IsNextRule view c.args.self.now j (c.args.left, c.args.right) →
-    IsJoined view j (c.args.left, c.args.right) c.index.result.now c.index-2.result.now c.join-entry.result
+    IsJoined view j (c.args.left, c.args.right) c.at-left.result c.at-right.result c.join-entry.result
 joined c view j next =
-    let left : PackedEntry = c.index.result.now in
-    let right : PackedEntry = c.index-2.result.now in
-    let long = c.args.self.now.entries.ok.0 in
-    let left_within : c.args.left < length c.args.self.now.entries.items = omega (arith, c.if-left-len.false, c.len.ensures, long) in
-    let right_within : c.args.right < length c.args.self.now.entries.items =
-    omega (arith, c.if-right-len.false, c.len-else-left-len.ensures, long) in
+    let left : PackedEntry = c.at-left.result in
+    let right : PackedEntry = c.at-right.result in
+    let left_within : c.args.left < length (entries_of c.args.self.now.entries) = omega (arith, c.if-left-len.false, c.len.ensures) in
+    let right_within : c.args.right < length (entries_of c.args.self.now.entries) =
+    omega (arith, c.if-right-len.false, c.len-else-left-len.ensures) in
     let left_below : c.args.left < length view.alphabet + j = omega (arith, left_within, next.many) in
     let right_below : c.args.right < length view.alphabet + j = omega (arith, right_within, next.many) in
     let left_is : IsEntryOf view c.args.left left =
-    subst (IsEntryOf view c.args.left) (sym c.index.ensures) (next.known.entries.each c.args.left left left_within) in
+    subst (IsEntryOf view c.args.left) (sym c.at-left.ensures) (next.known.entries.each c.args.left left left_within) in
     let right_is : IsEntryOf view c.args.right right =
-    subst (IsEntryOf view c.args.right) (sym c.index-2.ensures) (next.known.entries.each c.args.right right right_within) in
+    subst (IsEntryOf view c.args.right) (sym c.at-right.ensures) (next.known.entries.each c.args.right right right_within) in
     record {
       left_below = left_below;
       right_below = right_below;
       left_is = left_is;
       right_is = right_is;
       entry_is = entry_of-rule view j (c.args.left, c.args.right) next.within next.is left_below right_below left right left_is right_is
-          c.join-entry.result c.len-2.result (omega (arith, c.len-2.ensures, long, next.many)) c.join-entry.ensures;
+          c.join-entry.result c.len-2.result (omega (arith, c.len-2.ensures, next.many)) c.join-entry.ensures;
     }
 
 -- how the table judges the entry is how the rules do
@@ -59,10 +58,10 @@ returns-then-left-len-clause-judged c = λ view j next.
     elim c.then-left-len.branch [
       | then-left-len-via-then-left-len w ↦
           flawed_rule-left view j c.args.left c.args.right next.is
-          (omega (arith, w.if-left-len.true, c.len.ensures, c.args.self.now.entries.ok.0, next.many))
+          (omega (arith, w.if-left-len.true, c.len.ensures, next.many))
       | then-left-len-via-else-left-len+then-right-len w ↦
           flawed_rule-right view j c.args.left c.args.right next.is
-          (omega (arith, w.if-right-len.true, w.len-else-left-len.ensures, c.args.self.now.entries.ok.0, next.many))
+          (omega (arith, w.if-right-len.true, w.len-else-left-len.ensures, next.many))
     ]
 
 pub returns-then-is_far-clause-judged : goal.returns-then-is_far-clause-judged
@@ -97,7 +96,7 @@ returns-clause-judged c = λ view j next.
     let at = joined w view j next in (
       rule_flawed-by_entry view j c.args.left c.args.right next.is at.left_below at.right_below false
           (judged w view j next false (sym c.is_far.ensures ∙ c.if-is_far.false)),
-      is_entry_of-rule view j (c.args.left, c.args.right) next.within next.is at.left_below at.right_below c.index.result.now
-          c.index-2.result.now at.left_is at.right_is c.join-entry.result c.pack.result at.entry_is c.pack.ensures.packed
+      is_entry_of-rule view j (c.args.left, c.args.right) next.within next.is at.left_below at.right_below c.at-left.result
+          c.at-right.result at.left_is at.right_is c.join-entry.result c.pack.result at.entry_is c.pack.ensures.packed
           (omega (arith, c.pack.ensures.depth, c.max.ensures)),
     )

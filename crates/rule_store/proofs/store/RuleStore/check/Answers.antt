@@ -1,8 +1,7 @@
-use Rattle.std.proofs.Common.{◌≡◌, None, List, ap, length, max, refl, subst, sym, ◌∙◌}
-use Rattle.std.specs.Prelude.{fold}
+use Rattle.std.proofs.Common.{◌≡◌, None, List, ap, length, refl, subst, sym, ◌∙◌}
 use Rattle.rule_store.specs.declared.packed_entry.PackedEntry.{PackedEntry}
 use Rattle.rule_store.specs.Flaws.{rule_flaw}
-use Rattle.rule_store.specs.Stored.{AreEntries, AreStoredRules}
+use Rattle.rule_store.specs.Stored.{entries_of, AreEntries, AreStoredRules}
 use Rattle.rule_store.specs.View.{AreShapedRules, RulesView, rules_with, symbols_in}
 use Rattle.rule_store.proofs.FlawLemmas.{rules_flaw-none}
 use Rattle.rule_store.proofs.StoredLemmas.{depth_in-entries, same_view}
@@ -21,11 +20,11 @@ invariant_of-result c =
     (c.as_slice-2.ensures ∙ sym c.into_vec-2.ensures ∙ sym c.new-2.ensures)
     (c.as_slice-3.ensures ∙ sym c.into_vec-3.ensures ∙ sym c.new-3.ensures) in
     let none : rule_flaw judged ≡ None = sym c.in_ok-rule.ensures.flaw ∙ c.in_default-2.is in
-    let entries : List PackedEntry = c.into_entries-entries.result.items in
+    let entries : List PackedEntry = entries_of c.into_entries-entries.result in
     let many : length entries ≡ symbols_in judged =
-    ap (λ (xs : List PackedEntry). length xs) c.into_entries-entries.ensures ∙ c.in_ok-rule.ensures.many c.in_default-2.is in
+    ap (λ kept. length (entries_of kept)) c.into_entries-entries.ensures ∙ c.in_ok-rule.ensures.many c.in_default-2.is in
     let each : AreEntries judged entries =
-    subst (AreEntries judged) (sym c.into_entries-entries.ensures) (c.in_ok-rule.ensures.ok c.in_default-2.is).entries in
+    subst (λ kept. AreEntries judged (entries_of kept)) (sym c.into_entries-entries.ensures) (c.in_ok-rule.ensures.ok c.in_default-2.is).entries in
     let stored : AreStoredRules judged entries c.greatest_depth-depth.result = record {
       rules = record {
         shaped = subst AreShapedRules (sym given) c.requires;
@@ -38,7 +37,6 @@ invariant_of-result c =
       many = many;
       entries_are = each;
       depth_is = c.greatest_depth-depth.ensures.value
-          ∙ ap (λ all. fold (λ deepest (entry : PackedEntry). max deepest entry.depth) 0 all) c.as_slice-4.ensures.value
           ∙ depth_in-entries judged entries many each;
       depth_fits = c.greatest_depth-depth.ensures.within;
     } in

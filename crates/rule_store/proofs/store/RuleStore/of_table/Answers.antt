@@ -1,7 +1,7 @@
-use Rattle.std.proofs.Common.{ap, subst, sym, ◌∙◌, max}
-use Rattle.std.specs.Prelude.{fold, length, List}
+use Rattle.std.proofs.Common.{ap, subst, sym, ◌∙◌}
+use Rattle.std.specs.Prelude.{length, List}
 use Rattle.rule_store.specs.declared.packed_entry.PackedEntry.{PackedEntry}
-use Rattle.rule_store.specs.Stored.{AreEntries, AreStoredRules}
+use Rattle.rule_store.specs.Stored.{entries_of, AreEntries, AreStoredRules}
 use Rattle.rule_store.specs.View.{RulesView, rules_with}
 use Rattle.rule_store.proofs.StoredLemmas.{depth_in-entries, same_view}
 use Rattle.rule_store.proofs.store.RuleStore.of_table.Goals as goal
@@ -13,15 +13,14 @@ invariant_of-result c =
     let kept = same_view c.args.alphabet c.new.result c.args.rules c.new-2.result c.args.symbols c.new-3.result table.height table.period
     (sym (c.new.ensures ∙ c.into_vec.ensures)) (sym (c.new-2.ensures ∙ c.into_vec-2.ensures)) (sym (c.new-3.ensures ∙ c.into_vec-3.ensures)) in
     let whole = c.requires.table in
-    let entries : List PackedEntry = c.into_entries-entries.result.items in
-    let many = ap (λ (xs : List PackedEntry). length xs) c.into_entries-entries.ensures ∙ whole.all in
-    let each : AreEntries given entries = subst (AreEntries given) (sym c.into_entries-entries.ensures) whole.known.entries in
+    let entries : List PackedEntry = entries_of c.into_entries-entries.result in
+    let many = ap (λ kept. length (entries_of kept)) c.into_entries-entries.ensures ∙ whole.all in
+    let each : AreEntries given entries = subst (λ kept. AreEntries given (entries_of kept)) (sym c.into_entries-entries.ensures) whole.known.entries in
     let stored : AreStoredRules given entries c.greatest_depth-depth.result = record {
       rules = c.requires.rules;
       many = many;
       entries_are = each;
       depth_is = c.greatest_depth-depth.ensures.value
-          ∙ ap (λ all. fold (λ deepest (entry : PackedEntry). max deepest entry.depth) 0 all) c.as_slice.ensures.value
           ∙ depth_in-entries given entries many each;
       depth_fits = c.greatest_depth-depth.ensures.within;
     } in
