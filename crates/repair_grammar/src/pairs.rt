@@ -6,16 +6,21 @@ ghost use Rattle.repair_grammar.specs.RePair.{is_pair};
 ghost use Rattle.repair_grammar.specs.Pairs.{count_in_table, places_in_table};
 ghost use Rattle.repair_grammar.specs.Pairs.{count_of, places_of, HasCome};
 
+use smallvec::SmallVec;
 use std::alloc::Global;
 use std::collections::HashMap;
 use track_types::Memory;
+
+// How many places of a pair are kept in its entry itself. Most pairs have no more, so they need no
+// memory of their own.
+const INLINE: usize = 4;
 
 /// How often a pair counts, and the places at which its left symbol was seen. It may have gone from
 /// some of them.
 #[derive(Drop)]
 pub struct Seen {
     pub count: u32,
-    pub places: Vec<u32>,
+    pub places: SmallVec<u32, INLINE>,
 }
 
 /// What is known of each pair that counts.
@@ -165,7 +170,7 @@ fn note_in(
             Ok(seen.count)
         }
         None => {
-            let mut places = Vec::new(alloc);
+            let mut places = SmallVec::new(alloc);
             places.push(place)?;
             table.insert(
                 pair,

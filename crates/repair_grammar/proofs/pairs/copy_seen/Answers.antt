@@ -7,7 +7,7 @@ use Rattle.repair_grammar.proofs.pairs.copy_seen.Goals as goal
 pub returns-in_ok-extend_from_slice : goal.returns-in_ok-extend_from_slice
 returns-in_ok-extend_from_slice c = record {
   ok = c.in_ok-extend_from_slice.ensures.items
-      ∙ ap (λ (xs : List ℕ). xs ++ c.as_slice.result.now) c.clear.ensures.items ∙ c.as_slice.ensures.value
+      ∙ ap (λ (xs : List ℕ). xs ++ c.as_slice.result.now) c.clear.ensures.items ∙ c.as_slice.ensures
       ∙ sym (ap places_in_entry (sym c.get.ensures.value ∙ ap option_copied c.in-Some.is)
       ∙ places-some c.in-Some.seen.now);
 }

@@ -43,7 +43,7 @@ pub returns-in_ok-insert-in-None-clause-places : goal.returns-in_ok-insert-in-No
 returns-in_ok-insert-in-None-clause-places c = λ other.
     let at = (goal.at.returns-in_ok-insert-in-None-clause-places c).In_ok-insert-in-None in
     let one : c.push-in-None.new.self.items ≡ c.args.place ∷ [] =
-    c.in_ok-push-in-None.ensures.items ∙ ap (λ xs. xs ++ c.args.place ∷ []) c.new-places.ensures.items in
+    c.in_ok-push-in-None.ensures.ok ∙ ap (λ xs. xs ++ c.args.place ∷ []) c.new-places.ensures.items in
     rw (sym one) (places_new (seen_entry c.args.table.now) (seen_entry c.insert.new.self) c.args.pair other
     (record { count = c.args.more; places = c.push-in-None.new.self }) (now at other) (none at))
 
