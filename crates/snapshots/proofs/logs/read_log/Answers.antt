@@ -1,4 +1,5 @@
 use Rattle.std.proofs.Common.{◌≡◌, ℕ, ℤ, List, max, ap, ◌+ℤ◌, length, arith, refl, subst, sym, ◌∙◌, to_z, of_z, w64}
+use Rattle.std.proofs.lemmas.Grind.{common_steps}
 use Rattle.std.proofs.lemmas.Int.{ints}
 use Rattle.std.specs.Prelude.{slice_index}
 use Rattle.rule_store.specs.Entry.{entry_of}
@@ -121,3 +122,6 @@ returns-clause-area g c =
     let last : c.loop-place.place ≡ length log =
     omega (arith, c.loop-place-test.false, length-block_log c.args.ahead.now.rules block c.requires.log) in
     c.loop-place.invariant.boxed ∙ box_before-all c.args.ahead.now.rules block.cell log c.loop-place.place last
+
+pub returns-clause-ok : goal.returns-clause-ok
+returns-clause-ok g c = grind (arith, common_steps)

@@ -1,4 +1,5 @@
 use Rattle.std.proofs.Common.{◌≡◌, sym, ap, ◌∙◌, arith, length}
+use Rattle.std.proofs.lemmas.Grind.{common_steps}
 use Rattle.std.proofs.lemmas.Bool.{eqb-true}
 use Rattle.k2_tree.specs.Tree.{tree_bits}
 use Rattle.snapshots.proofs.AbsentLemmas.{parts_with-absent, tree_bits-absent}
@@ -21,3 +22,6 @@ returns-then-is_empty-clause-parts c =
     (omega (arith, none, c.requires.offsets, c.requires.lasts))
     (omega (arith, none, c.requires.offsets, c.requires.perm))
     (omega (arith, none, c.requires.offsets, c.requires.lengths))
+
+pub returns-in_err-indexed-clause-starts : goal.returns-in_err-indexed-clause-starts
+returns-in_err-indexed-clause-starts c = grind (arith, common_steps)

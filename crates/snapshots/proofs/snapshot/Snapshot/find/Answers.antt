@@ -1,4 +1,5 @@
 use Rattle.std.proofs.Common.{◌≡◌, ◌<◌, Some, ap, sym, ◌∙◌, arith, length}
+use Rattle.std.proofs.lemmas.Grind.{elements}
 use Rattle.std.specs.Prelude.{slice_get}
 use Rattle.bit_rank.specs.Bits.{rank_of}
 use Rattle.object_perm.specs.Permutation.{inverse_of}
@@ -66,3 +67,6 @@ pub returns-clause-block : goal.returns-clause-block
 returns-clause-block g c =
     IsBlock-from_block_of c.args.self.now c.is_present.ensures.snapshot c.args.index c.block.result
     (sym (returns-clause-value g c))
+
+pub returns-then-not-is_present-clause-value : goal.returns-then-not-is_present-clause-value
+returns-then-not-is_present-clause-value g c = grind (arith, elements)

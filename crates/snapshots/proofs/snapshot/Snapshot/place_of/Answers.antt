@@ -1,4 +1,5 @@
 use Rattle.std.proofs.Common.{◌≡◌, ◌<◌, Some, ap, subst, sym, ◌∙◌, arith, length}
+use Rattle.std.proofs.lemmas.Grind.{elements}
 use Rattle.bit_rank.specs.Bits.{rank_of}
 use Rattle.object_perm.specs.Permutation.{inverse_of}
 use Rattle.snapshots.specs.View.{block_at, block_of, place_in, rank_in}
@@ -32,3 +33,6 @@ returns-clause-some g c =
     c.inverse.ensures.exact ∙ ap (λ perm. inverse_of perm c.rank1-rank.result) is.perm
     ∙ ap (inverse_of view.parts.perm) (c.rank1-rank.ensures.value ∙ ap (λ bits. rank_of bits c.args.index) is.present) in
     (block_of-place_in view c.args.index c.is_present.ensures.snapshot here).1 ∙ ap (λ p. Some (block_at view p)) (sym place)
+
+pub returns-then-not-is_present-clause-none : goal.returns-then-not-is_present-clause-none
+returns-then-not-is_present-clause-none g c = grind (arith, elements)

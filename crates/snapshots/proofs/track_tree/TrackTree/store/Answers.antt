@@ -1,4 +1,5 @@
 use Rattle.std.proofs.Common.{arith}
+use Rattle.std.proofs.lemmas.Grind.{common_steps}
 use Rattle.snapshots.proofs.KeptLemmas.{are_levels}
 use Rattle.snapshots.proofs.SoundLemmas.{wide_of-fits}
 use Rattle.snapshots.proofs.track_tree.TrackTree.store.Goals as goal
@@ -16,3 +17,6 @@ build-requires-clause-levels c =
 pub build-requires-clause-places : goal.build-requires-clause-places
 build-requires-clause-places c =
     rw (c.wide_levels-wide.ensures, c.requires.codes) c.requires.places
+
+pub invariant_of-kept : goal.invariant_of-kept
+invariant_of-kept c = grind (arith, common_steps)
