@@ -1,3 +1,5 @@
+use Rattle.std.proofs.Common.{rules}
+use Rattle.std.proofs.lemmas.Grind.{common_steps}
 use Rattle.std.proofs.Common.{◌≡◌, ℕ, ◌+◌, ◌<◌, ◌≤◌, ℤ, ◌≤ℤ◌, ◌<ℤ◌, Bool, true, List, [], length, Option, refl, sym, ◌∙◌, arith, ◌⊎◌, inl, inr}
 use Rattle.std.specs.Option.{is_some}
 use Rattle.std.proofs.lemmas.Bool.{leb-false, leb-true}
@@ -299,3 +301,51 @@ returns-clause-value g c =
     let from : word c.args.from ≡ c.args.from = omega (arith, ints) in
     let to : word c.args.to ≡ c.args.to = omega (arith, ints) in
     rw (from, to) at (sym (walking-over c.loop-at.invariant.walking (omega (arith, ints, c.loop-at-test.false))))
+
+pub next-requires : goal.next-requires
+next-requires g c = search rules
+
+pub returns-in_err-entry-clause-left : goal.returns-in_err-entry-clause-left
+returns-in_err-entry-clause-left g c = grind (arith, common_steps)
+
+pub returns-in_err-entry-clause-rules : goal.returns-in_err-entry-clause-rules
+returns-in_err-entry-clause-rules g c = grind (arith, common_steps)
+
+pub returns-in_err-entry-clause-places : goal.returns-in_err-entry-clause-places
+returns-in_err-entry-clause-places g c = search rules
+
+pub returns-in_err-entry-clause-cost : goal.returns-in_err-entry-clause-cost
+returns-in_err-entry-clause-cost g c = search rules
+
+pub returns-in_err-entry-clause-budget : goal.returns-in_err-entry-clause-budget
+returns-in_err-entry-clause-budget g c = search rules
+
+pub is_rule-requires : goal.is_rule-requires
+is_rule-requires g c = grind (arith, common_steps)
+
+pub returns-then-not-is_rule-clause-places : goal.returns-then-not-is_rule-clause-places
+returns-then-not-is_rule-clause-places g c = grind (arith, common_steps)
+
+pub open-requires-clause-rule : goal.open-requires-clause-rule
+open-requires-clause-rule g c = grind (arith, common_steps)
+
+pub open-requires-clause-roomy : goal.open-requires-clause-roomy
+open-requires-clause-roomy g c = grind (arith, common_steps)
+
+pub overflow_add-opened : goal.overflow_add-opened
+overflow_add-opened g c = search rules
+
+pub hit_beyond-requires-clause-window : goal.hit_beyond-requires-clause-window
+hit_beyond-requires-clause-window g c = search rules
+
+pub returns-clause-rules : goal.returns-clause-rules
+returns-clause-rules g c = search rules
+
+pub returns-clause-places : goal.returns-clause-places
+returns-clause-places g c = search rules
+
+pub returns-clause-cost : goal.returns-clause-cost
+returns-clause-cost g c = search rules
+
+pub returns-clause-budget : goal.returns-clause-budget
+returns-clause-budget g c = search rules

@@ -1,3 +1,5 @@
+use Rattle.std.proofs.Common.{rules}
+use Rattle.std.proofs.lemmas.Grind.{common_steps}
 use Rattle.std.proofs.Common.{◌≡◌, [], ◌∷◌, ◌<◌, ◌≤ℤ◌, ◌<ℤ◌, length, subst, sym, ap, ◌∙◌, arith}
 use Rattle.std.proofs.lemmas.Int.{ints}
 use Rattle.rule_store.specs.Flaws.{AreRules}
@@ -95,3 +97,30 @@ pub returns-clause-value : goal.returns-clause-value
 returns-clause-value g c =
     let kept : word c.args.instant ≡ c.args.instant = omega (arith, ints) in
     rw kept at (seeking-last c.loop-i.invariant (omega (arith, c.len-i-end.ensures, c.loop-i-test.false)))
+
+pub returns-then-instant-start-2-clause-cost : goal.returns-then-instant-start-2-clause-cost
+returns-then-instant-start-2-clause-cost g c = search rules
+
+pub returns-then-instant-start-2-clause-early : goal.returns-then-instant-start-2-clause-early
+returns-then-instant-start-2-clause-early g c = search rules
+
+pub returns-else-instant-start-2-clause-cost : goal.returns-else-instant-start-2-clause-cost
+returns-else-instant-start-2-clause-cost g c = search rules
+
+pub returns-else-instant-start-2-clause-early : goal.returns-else-instant-start-2-clause-early
+returns-else-instant-start-2-clause-early g c = search rules
+
+pub entry-entry-requires-clause-within : goal.entry-entry-requires-clause-within
+entry-entry-requires-clause-within g c = search rules
+
+pub entry-entry-requires-clause-may : goal.entry-entry-requires-clause-may
+entry-entry-requires-clause-may g c = grind (arith, common_steps)
+
+pub returns-then-instant-next-clause-early : goal.returns-then-instant-next-clause-early
+returns-then-instant-next-clause-early g c = search rules
+
+pub returns-clause-cost : goal.returns-clause-cost
+returns-clause-cost g c = search rules
+
+pub returns-clause-early : goal.returns-clause-early
+returns-clause-early g c = search rules

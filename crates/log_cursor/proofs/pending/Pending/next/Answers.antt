@@ -1,3 +1,5 @@
+use Rattle.std.proofs.Common.{rules}
+use Rattle.std.proofs.lemmas.Grind.{common_steps, elements}
 use Rattle.std.proofs.Common.{◌≡◌, ◌<◌, ◌+◌, [], length, subst, arith}
 use Rattle.rule_store.specs.Log.{log_of}
 use Rattle.log_cursor.specs.Pending.{IsTaken, pending_of}
@@ -22,3 +24,69 @@ returns-clause-found g c =
     c.self.view_is
     (IsTaken-read pending.view pending.next c.entry-entry.result pending.stack.items c.pop.new.self.items none still
     within c.entry-entry.ensures.value c.entry-entry.ensures.within)
+
+pub pop-requires : goal.pop-requires
+pop-requires g c = search rules
+
+pub entry-requires : goal.entry-requires
+entry-requires g c = grind (arith, elements)
+
+pub invariant_of-self : goal.invariant_of-self
+invariant_of-self g c = grind (arith, common_steps)
+
+pub returns-in-Some-clause-rules : goal.returns-in-Some-clause-rules
+returns-in-Some-clause-rules g c = search rules
+
+pub returns-in-Some-clause-places : goal.returns-in-Some-clause-places
+returns-in-Some-clause-places g c = search rules
+
+pub returns-in-Some-clause-sound : goal.returns-in-Some-clause-sound
+returns-in-Some-clause-sound g c = search rules
+
+pub returns-in-Some-clause-cost : goal.returns-in-Some-clause-cost
+returns-in-Some-clause-cost g c = grind (arith, common_steps)
+
+pub invariant_of-self-then-self-len : goal.invariant_of-self-then-self-len
+invariant_of-self-then-self-len g c = search rules
+
+pub returns-then-self-len-clause-rules : goal.returns-then-self-len-clause-rules
+returns-then-self-len-clause-rules g c = search rules
+
+pub returns-then-self-len-clause-places : goal.returns-then-self-len-clause-places
+returns-then-self-len-clause-places g c = search rules
+
+pub returns-then-self-len-clause-none : goal.returns-then-self-len-clause-none
+returns-then-self-len-clause-none g c = grind (arith, common_steps)
+
+pub returns-then-self-len-clause-end : goal.returns-then-self-len-clause-end
+returns-then-self-len-clause-end g c = grind (arith, common_steps)
+
+pub returns-then-self-len-clause-sound : goal.returns-then-self-len-clause-sound
+returns-then-self-len-clause-sound g c = search rules
+
+pub returns-then-self-len-clause-cost : goal.returns-then-self-len-clause-cost
+returns-then-self-len-clause-cost g c = grind (arith, common_steps)
+
+pub entry-entry-requires-clause-within : goal.entry-entry-requires-clause-within
+entry-entry-requires-clause-within g c = grind (arith, common_steps)
+
+pub entry-entry-requires-clause-may : goal.entry-entry-requires-clause-may
+entry-entry-requires-clause-may g c = grind (arith, common_steps)
+
+pub overflow_add-self : goal.overflow_add-self
+overflow_add-self g c = search rules
+
+pub invariant_of-self-2 : goal.invariant_of-self-2
+invariant_of-self-2 g c = search rules
+
+pub returns-clause-rules : goal.returns-clause-rules
+returns-clause-rules g c = search rules
+
+pub returns-clause-places : goal.returns-clause-places
+returns-clause-places g c = search rules
+
+pub returns-clause-sound : goal.returns-clause-sound
+returns-clause-sound g c = search rules
+
+pub returns-clause-cost : goal.returns-clause-cost
+returns-clause-cost g c = grind (arith, elements)

@@ -1,3 +1,5 @@
+use Rattle.std.proofs.Common.{rules}
+use Rattle.std.proofs.lemmas.Grind.{common_steps}
 use Rattle.std.proofs.Common.{◌≡◌, ◌+◌, ◌≤ℤ◌, ◌<ℤ◌, [], true, not, to_z, of_z, w64, None, refl, subst, sym, ap, ◌∙◌, arith}
 use Rattle.std.specs.Option.{is_some}
 use Rattle.std.proofs.lemmas.Bool.{leb-false, leb-true}
@@ -179,3 +181,54 @@ returns g c =
       places = c.loop-self.invariant.places;
       needs = log_needs-same c.loop-self.invariant.places;
     })
+
+pub invariant_of-self : goal.invariant_of-self
+invariant_of-self g c = search rules
+
+pub returns-in-Some-clause-found : goal.returns-in-Some-clause-found
+returns-in-Some-clause-found g c = search rules
+
+pub returns-in-Some-clause-cost : goal.returns-in-Some-clause-cost
+returns-in-Some-clause-cost g c = grind (arith, common_steps)
+
+pub returns-in-Some-clause-in_time : goal.returns-in-Some-clause-in_time
+returns-in-Some-clause-in_time g c = grind (arith, common_steps)
+
+pub returns-in-Some-clause-rules : goal.returns-in-Some-clause-rules
+returns-in-Some-clause-rules g c = search rules
+
+pub returns-in-Some-clause-places : goal.returns-in-Some-clause-places
+returns-in-Some-clause-places g c = search rules
+
+pub returns-in-Some-clause-needs : goal.returns-in-Some-clause-needs
+returns-in-Some-clause-needs g c = search rules
+
+pub invariant_of-self-in-loop-self : goal.invariant_of-self-in-loop-self
+invariant_of-self-in-loop-self g c = grind (arith, common_steps)
+
+pub next-requires : goal.next-requires
+next-requires g c = search rules
+
+pub invariant_of-self-in_err-entry : goal.invariant_of-self-in_err-entry
+invariant_of-self-in_err-entry g c = grind (arith, common_steps)
+
+pub is_rule-requires : goal.is_rule-requires
+is_rule-requires g c = grind (arith, common_steps)
+
+pub open-requires-clause-rule : goal.open-requires-clause-rule
+open-requires-clause-rule g c = grind (arith, common_steps)
+
+pub open-requires-clause-roomy : goal.open-requires-clause-roomy
+open-requires-clause-roomy g c = grind (arith, common_steps)
+
+pub open-requires-clause-may : goal.open-requires-clause-may
+open-requires-clause-may g c = search rules
+
+pub returns-in-loop-self-clause-rules : goal.returns-in-loop-self-clause-rules
+returns-in-loop-self-clause-rules g c = grind (arith, common_steps)
+
+pub returns-in-loop-self-clause-places : goal.returns-in-loop-self-clause-places
+returns-in-loop-self-clause-places g c = grind (arith, common_steps)
+
+pub returns-in-loop-self-clause-needs : goal.returns-in-loop-self-clause-needs
+returns-in-loop-self-clause-needs g c = search rules
