@@ -1,3 +1,5 @@
+use Rattle.std.proofs.Common.{arith}
+use Rattle.std.proofs.lemmas.Grind.{common_steps}
 use Rattle.std.proofs.Common.{◌≡◌, refl, sym, take, append_assoc}
 use Rattle.std.proofs.lemmas.List.{take_all}
 use Rattle.index_format.specs.Spelling.{bytes_of_parts, parts_bytes}
@@ -25,3 +27,6 @@ returns c =
         c.in_ok-out.ensures.items,
       ) (simp append_assoc refl);
     }
+
+pub loop-period-preserved : goal.loop-period-preserved
+loop-period-preserved c = grind (arith, common_steps)

@@ -1,3 +1,5 @@
+use Rattle.std.proofs.Common.{arith}
+use Rattle.std.proofs.lemmas.Grind.{elements}
 use Rattle.std.proofs.Common.{take, get_or, ap, ◌∙◌}
 use Rattle.std.proofs.lemmas.List.{take_more}
 use Rattle.index_format.specs.Spelling.{bits_with}
@@ -15,3 +17,9 @@ loop-number-preserved c =
     let next = ap (bits_with c.args.width) (take_more c.args.numbers.now c.loop-number.number-index 0 c.loop-number-test.true)
     ∙ bits_with-more c.args.width seen (get_or c.args.numbers.now c.loop-number.number-index 0) in
     rw next (c.in_ok-waiting.ensures before (bits_with c.args.width seen) c.loop-number.invariant)
+
+pub returns : goal.returns
+returns c = grind (arith, elements)
+
+pub returns-in_err-waiting : goal.returns-in_err-waiting
+returns-in_err-waiting c = grind (arith, elements)

@@ -1,3 +1,4 @@
+use Rattle.std.proofs.lemmas.Grind.{common_steps}
 use Rattle.std.proofs.Common.{◌*◌, ◌%◌, ◌++◌, ◌∷◌, [], ap, ◌∙◌, arith}
 use Rattle.std.proofs.lemmas.Nat.{one_shl}
 use Rattle.index_format.proofs.PackingLemmas.{IsReady, unpacking-more, unpacking-starts, window_fits, word_above}
@@ -45,3 +46,6 @@ loop-number-preserved c =
     (one_shl c.args.width 128 (omega (arith, c.requires.narrow))) in
     unpacking-more c.args.width seen._number bits seen.numbers.items c.push.new.self.items
     c.if-filled-width.waiting c.if-filled-width.filled c.if-filled-width.words seen.invariant.seen ready items
+
+pub overflow_add-words : goal.overflow_add-words
+overflow_add-words c = grind (arith, common_steps)
