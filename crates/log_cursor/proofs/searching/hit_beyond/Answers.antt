@@ -1,9 +1,8 @@
-use Rattle.std.proofs.Common.{rules}
 use Rattle.std.proofs.lemmas.Grind.{common_steps}
-use Rattle.std.proofs.Common.{◌≡◌, ℕ, ◌+◌, ◌<◌, ◌≤◌, ℤ, ◌≤ℤ◌, ◌<ℤ◌, Bool, true, List, [], length, Option, refl, subst, sym, ◌∙◌, arith, inl, inr}
+use Rattle.std.proofs.Common.{◌≡◌, ℕ, ◌+◌, ◌<◌, ◌≤◌, ℤ, ◌≤ℤ◌, ◌<ℤ◌, Bool, true, List, [], length, Option, refl, subst, sym, ◌∙◌, arith, rules, w64, inl, inr}
 use Rattle.std.specs.Option.{is_some}
 use Rattle.std.proofs.lemmas.Bool.{leb-false, leb-true}
-use Rattle.std.proofs.lemmas.Int.{ints}
+use Rattle.std.proofs.lemmas.Int.{ints, to_z-of_z}
 use Rattle.track_types.specs.declared.cell.Cell.{Cell}
 use Rattle.track_types.specs.declared.cell_box.CellBox.{CellBox}
 use Rattle.track_types.specs.declared.region.Region.{Region}
@@ -64,8 +63,8 @@ loop-at-init g c =
 
 pub returns-in_err-entry-clause-value : goal.returns-in_err-entry-clause-value
 returns-in_err-entry-clause-value g c =
-    let from : word c.args.from ≡ c.args.from = omega (arith, ints) in
-    let to : word c.args.to ≡ c.args.to = omega (arith, ints) in
+    let from : word c.args.from ≡ c.args.from = to_z-of_z w64 _ (search rules) in
+    let to : word c.args.to ≡ c.args.to = to_z-of_z w64 _ (search rules) in
     rw c.from_residual.ensures (rw (from, to) at (sym (walking-end c.loop-at.invariant.0.walking c.in_err-entry.ensures.none)))
 
 pub after-next-requires : goal.after-next-requires
@@ -133,9 +132,9 @@ returns-then-not-is_rule-clause-value g c =
     let turn = turn g at.After-after-next c.loop-at.invariant.0.walking in
     let region = c.args.test.now.region in
     let here = c.after-next.result in
-    let from : word c.args.from ≡ c.args.from = omega (arith, ints) in
-    let to : word c.args.to ≡ c.args.to = omega (arith, ints) in
-    let kept : word here.instant ≡ here.instant = omega (arith, ints) in
+    let from : word c.args.from ≡ c.args.from = to_z-of_z w64 _ (search rules) in
+    let to : word c.args.to ≡ c.args.to = to_z-of_z w64 _ (search rules) in
+    let kept : word here.instant ≡ here.instant = to_z-of_z w64 _ (search rules) in
     let terminal : c.in_ok-entry.entry.symbol < length c.next.new.self.rules.alphabet =
     leb-false _ _ (sym c.is_rule.ensures ∙ c.if-not-is_rule.true) in
     let held = turn-held turn its.0 its.1 region terminal its.2 in
@@ -151,9 +150,9 @@ returns-then-not-is_rule-clause-left g c =
     let first = c.args.pending.now in
     let here = c.after-next.result in
     let region = c.args.test.now.region in
-    let from : word c.args.from ≡ c.args.from = omega (arith, ints) in
-    let to : word c.args.to ≡ c.args.to = omega (arith, ints) in
-    let kept : word here.instant ≡ here.instant = omega (arith, ints) in
+    let from : word c.args.from ≡ c.args.from = to_z-of_z w64 _ (search rules) in
+    let to : word c.args.to ≡ c.args.to = to_z-of_z w64 _ (search rules) in
+    let kept : word here.instant ≡ here.instant = to_z-of_z w64 _ (search rules) in
     let terminal : c.in_ok-entry.entry.symbol < length c.next.new.self.rules.alphabet =
     leb-false _ _ (sym c.is_rule.ensures ∙ c.if-not-is_rule.true) in
     let count = opened_left-count first.rules (word c.args.from) (word c.args.to) here c.next.new.self.symbols in
@@ -178,15 +177,15 @@ returns-then-not-is_rule-clause-rules g c =
 pub returns-then-not-is_rule-clause-cost : goal.returns-then-not-is_rule-clause-cost
 returns-then-not-is_rule-clause-cost g c =
     let its = turn g (goal.at.returns-then-not-is_rule-clause-cost g c).After-after-next c.loop-at.invariant.0.walking in
-    let from : word c.args.from ≡ c.args.from = omega (arith, ints) in
-    let to : word c.args.to ≡ c.args.to = omega (arith, ints) in
+    let from : word c.args.from ≡ c.args.from = to_z-of_z w64 _ (search rules) in
+    let to : word c.args.to ≡ c.args.to = to_z-of_z w64 _ (search rules) in
     omega (arith, rw (from, to) at (turn-reads its))
 
 pub returns-then-not-is_rule-clause-budget : goal.returns-then-not-is_rule-clause-budget
 returns-then-not-is_rule-clause-budget g c =
     let its = turn g (goal.at.returns-then-not-is_rule-clause-budget g c).After-after-next c.loop-at.invariant.0.drawing in
-    let from : word c.args.from ≡ c.args.from = omega (arith, ints) in
-    let to : word c.args.to ≡ c.args.to = omega (arith, ints) in
+    let from : word c.args.from ≡ c.args.from = to_z-of_z w64 _ (search rules) in
+    let to : word c.args.to ≡ c.args.to = to_z-of_z w64 _ (search rules) in
     omega (arith, rw (from, to) at (turn-reads its))
 
 pub open-requires-clause-may : goal.open-requires-clause-may
@@ -229,8 +228,8 @@ loop-at-preserved g c =
 
 pub returns-clause-value : goal.returns-clause-value
 returns-clause-value g c =
-    let from : word c.args.from ≡ c.args.from = omega (arith, ints) in
-    let to : word c.args.to ≡ c.args.to = omega (arith, ints) in
+    let from : word c.args.from ≡ c.args.from = to_z-of_z w64 _ (search rules) in
+    let to : word c.args.to ≡ c.args.to = to_z-of_z w64 _ (search rules) in
     rw (from, to) at (sym (walking-over c.loop-at.invariant.0.walking (omega (arith, ints, c.loop-at-test.false))))
 
 pub next-requires : goal.next-requires

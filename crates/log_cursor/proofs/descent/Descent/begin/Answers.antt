@@ -1,5 +1,5 @@
-use Rattle.std.proofs.Common.{◌≡◌, ◌+◌, ◌≤ℤ◌, ◌<ℤ◌, [], ◌∷◌, Some, None, ap, subst, sym, ◌∙◌, arith}
-use Rattle.std.proofs.lemmas.Int.{ints}
+use Rattle.std.proofs.Common.{◌≡◌, ◌+◌, ◌≤ℤ◌, ◌<ℤ◌, [], ◌∷◌, Some, None, ap, subst, sym, ◌∙◌, arith, rules, w64}
+use Rattle.std.proofs.lemmas.Int.{ints, to_z-of_z}
 use Rattle.rule_store.specs.Entry.{entry_of}
 use Rattle.rule_store.specs.Flaws.{AreRules}
 use Rattle.rule_store.specs.Log.{in_window, log_of, stop_at}
@@ -22,7 +22,7 @@ returns-in_default-clause-hit g c =
     let region = c.args.test.now.region in
     let instant = c.args.instant in
     let anchor = c.anchor_hit-anchor.result in
-    let kept : word instant ≡ instant = omega (arith, ints) in
+    let kept : word instant ≡ instant = to_z-of_z w64 _ (search rules) in
     let is : anchor ≡ first_among region (in_window instant instant (stop_at start.instant start.cell ∷ [])) =
     rw kept at c.anchor_hit-anchor.ensures in
     let none : None ≡ first_needed (log_of c.args.view) start instant = sym c.in_default.is ∙ c.requires.first in
@@ -46,7 +46,7 @@ begun g c =
     let log = log_of c.args.view in
     let sound : AreRules rules = subst AreRules c.rules-rules.ensures c.sizes.ensures.sound in
     let needed : Some c.in-Some.first ≡ first_needed log c.args.start c.args.instant = sym c.in-Some.is ∙ c.requires.first in
-    let kept : word c.args.instant ≡ c.args.instant = omega (arith, ints) in
+    let kept : word c.args.instant ≡ c.args.instant = to_z-of_z w64 _ (search rules) in
     rw kept (first-passed log c.args.start c.args.instant rules c.args.test.now.region c.args.steps.now c.in-Some.first
     c.entry-entry.result
     (IsWayOf-placed rules c.args.start log sound (length-log_of c.args.view sound) c.requires.placed) needed
@@ -59,21 +59,21 @@ after-at-requires g c = passing-start (begun g (goal.at.after-at-requires g c).A
 pub returns-then-instant-at-clause-sound : goal.returns-then-instant-at-clause-sound
 returns-then-instant-at-clause-sound g c =
     let its = begun g (goal.at.returns-then-instant-at-clause-sound g c).After-entry-entry in
-    let kept : word c.args.instant ≡ c.args.instant = omega (arith, ints) in
+    let kept : word c.args.instant ≡ c.args.instant = to_z-of_z w64 _ (search rules) in
     let reached : word c.args.instant ≤ℤ c.after-at.result.instant = omega (arith, ints, c.if-instant-at.true) in
     rw kept at (passing-within its c.after-at.ensures reached)
 
 pub returns-then-instant-at-clause-hit : goal.returns-then-instant-at-clause-hit
 returns-then-instant-at-clause-hit g c =
     let its = begun g (goal.at.returns-then-instant-at-clause-hit g c).After-entry-entry in
-    let kept : word c.args.instant ≡ c.args.instant = omega (arith, ints) in
+    let kept : word c.args.instant ≡ c.args.instant = to_z-of_z w64 _ (search rules) in
     let reached : word c.args.instant ≤ℤ c.after-at.result.instant = omega (arith, ints, c.if-instant-at.true) in
     rw kept at (passing-found its c.after-at.ensures reached)
 
 pub returns-then-instant-at-clause-cost : goal.returns-then-instant-at-clause-cost
 returns-then-instant-at-clause-cost g c =
     let its = begun g (goal.at.returns-then-instant-at-clause-cost g c).After-entry-entry in
-    let kept : word c.args.instant ≡ c.args.instant = omega (arith, ints) in
+    let kept : word c.args.instant ≡ c.args.instant = to_z-of_z w64 _ (search rules) in
     let reached : word c.args.instant ≤ℤ c.after-at.result.instant = omega (arith, ints, c.if-instant-at.true) in
     let cost = rw kept at (passing-cost its c.after-at.ensures reached) in
     rw c.in-Some.is (omega (arith, cost))
@@ -107,21 +107,21 @@ after-next-requires g c = passing-start (passed g (goal.at.after-next-requires g
 pub returns-then-instant-next-clause-sound : goal.returns-then-instant-next-clause-sound
 returns-then-instant-next-clause-sound g c =
     let its = passed g (goal.at.returns-then-instant-next-clause-sound g c).After-entry-entry-in-loop-i in
-    let kept : word c.args.instant ≡ c.args.instant = omega (arith, ints) in
+    let kept : word c.args.instant ≡ c.args.instant = to_z-of_z w64 _ (search rules) in
     let reached : word c.args.instant ≤ℤ c.after-next.result.instant = omega (arith, ints, c.if-instant-next.true) in
     rw kept at (passing-within its c.after-next.ensures reached)
 
 pub returns-then-instant-next-clause-hit : goal.returns-then-instant-next-clause-hit
 returns-then-instant-next-clause-hit g c =
     let its = passed g (goal.at.returns-then-instant-next-clause-hit g c).After-entry-entry-in-loop-i in
-    let kept : word c.args.instant ≡ c.args.instant = omega (arith, ints) in
+    let kept : word c.args.instant ≡ c.args.instant = to_z-of_z w64 _ (search rules) in
     let reached : word c.args.instant ≤ℤ c.after-next.result.instant = omega (arith, ints, c.if-instant-next.true) in
     rw kept at (passing-found its c.after-next.ensures reached)
 
 pub returns-then-instant-next-clause-cost : goal.returns-then-instant-next-clause-cost
 returns-then-instant-next-clause-cost g c =
     let its = passed g (goal.at.returns-then-instant-next-clause-cost g c).After-entry-entry-in-loop-i in
-    let kept : word c.args.instant ≡ c.args.instant = omega (arith, ints) in
+    let kept : word c.args.instant ≡ c.args.instant = to_z-of_z w64 _ (search rules) in
     let reached : word c.args.instant ≤ℤ c.after-next.result.instant = omega (arith, ints, c.if-instant-next.true) in
     let cost = rw kept at (passing-cost its c.after-next.ensures reached) in
     rw c.in-Some.is (omega (arith, cost))
@@ -134,7 +134,7 @@ loop-i-preserved g c =
 
 pub returns-clause-hit : goal.returns-clause-hit
 returns-clause-hit g c =
-    let kept : word c.args.instant ≡ c.args.instant = omega (arith, ints) in
+    let kept : word c.args.instant ≡ c.args.instant = to_z-of_z w64 _ (search rules) in
     let none = passing-last c.loop-i.invariant (omega (arith, c.len-i-end.ensures, c.loop-i-test.false)) in
     ap (hit_from c.args.view.rules.now c.args.instant c.args.test.now.region c.over-2.result.at) c.over-2.ensures.stage
     ∙ (rw kept at none)

@@ -1,6 +1,5 @@
-use Rattle.std.proofs.Common.{rules}
 use Rattle.std.proofs.lemmas.Grind.{common_steps, elements}
-use Rattle.std.proofs.Common.{◌≡◌, ◌<◌, ◌+◌, [], length, subst, arith}
+use Rattle.std.proofs.Common.{◌≡◌, ◌<◌, ◌+◌, [], length, subst, arith, rules}
 use Rattle.rule_store.specs.Log.{log_of}
 use Rattle.log_cursor.specs.Pending.{IsTaken, pending_of}
 use Rattle.log_cursor.proofs.StackLemmas.{IsTaken-read, IsTaken-top, no_part, no_part_left}
