@@ -1,6 +1,5 @@
-use Rattle.std.proofs.Common.{arith}
+use Rattle.std.proofs.Common.{ℕ, List, sym, subst, ap, arith, ◌∙◌}
 use Rattle.std.proofs.lemmas.Grind.{elements}
-use Rattle.std.proofs.Common.{List, sym, ap, ◌∙◌}
 use Rattle.std.specs.Option.{option_map}
 use Rattle.track_types.specs.Meeting.{meeting_at}
 use Rattle.track_types.specs.declared.stop.Stop.{Stop}
