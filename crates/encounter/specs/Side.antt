@@ -19,8 +19,8 @@ use Rattle.log_cursor.specs.declared.start.Start.{Start}
 use Rattle.encounter.specs.Span.{Span, BlockTree, span_along, span_at, node_span, spans_in}
 
 -- The next node of a block: its span, where it leads, whether it is a rule, its own stops and rule nodes, and what
--- comes after it. Then where the symbols of the log stand, how many of them are still to be read, and a measure of what remains, which each turn
--- makes less.
+-- comes after it. Then where the symbols of the log stand, how many of them are still to be read, and a measure of what
+-- remains, which each turn makes less.
 pub record SideView : Type 0 where
   pub top : Span
   pub cell : Cell

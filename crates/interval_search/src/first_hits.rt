@@ -6,11 +6,12 @@ ghost use Rattle.std.specs.List.Sorted.{IsNonDecreasingBy, IsPermutation};
 ghost use Rattle.std.specs.Option.{option_to_list};
 ghost use Rattle.rule_store.specs.Needs.{log_needs};
 ghost use Rattle.snapshots.specs.Needs.{log_places};
-ghost use Rattle.snapshots.specs.Parts.{snapshot_in};
+ghost use Rattle.snapshots.specs.Parts.{rules_in, snapshot_in};
 ghost use Rattle.snapshots.specs.Sound.{IsBlock};
 ghost use Rattle.slice_search.specs.Sought.{first_stop_in, log_reads, AreSought};
 ghost use Rattle.interval_search.specs.FirstHits.{hit_at, is_known, known_after, AreFirst};
 
+use log_cursor::Pending;
 use slice_search::Sought;
 use snapshots::Anchored;
 use std::alloc::Global;
@@ -40,16 +41,17 @@ impl FirstHits {
     }
 
     /// Takes the first hits that the blocks of a walk have. It skips the objects that are known: they
-    /// have an earlier hit, and their logs are not opened.
-    pub fn look<W: Lazy<Item = Anchored>, L: Reads>(
+    /// have an earlier hit, and their logs are not opened. The stack serves one log after the other.
+    pub fn look<'a, W: Lazy<Item = Anchored>, L: Reads>(
         &mut self,
-        alloc: Global,
-        sought: &Sought,
+        pending: &mut Pending<'a>,
+        sought: &Sought<'a>,
         blocks: &mut W,
         steps: &mut Steps<L>,
     ) -> Result<(), Memory>
         requires first { AreFirst sought.now.stores.now sought.now.from sought.now.to
             sought.now.test.now.region sought.now.period self.old.known.items self.old.found.items }
+        requires rules { pending.old.rules ≡ rules_in sought.now.stores.now }
         requires blocks { AreSought sought.now.stores.now sought.now.period sought.now.from
             sought.now.to sought.now.test.now.region (W.left blocks.old) }
         requires may { ReadsWithin (W.needs blocks.old) L.may }
@@ -58,6 +60,7 @@ impl FirstHits {
         ensures first { OnOk result (AreFirst sought.now.stores.now sought.now.from sought.now.to
             sought.now.test.now.region (sought.now.period + 1) self.new.known.items
             self.new.found.items) }
+        ensures rules { pending.new.rules ≡ pending.old.rules }
         ensures cost { steps.new ≤ steps.old + (W.budget blocks.old + sum_by (log_reads
             sought.now.stores.now sought.now.period sought.now.from sought.now.to
             sought.now.test.now.region) (W.left blocks.old)) }
@@ -65,22 +68,23 @@ impl FirstHits {
         let _ = sought.stores.frame(); // says what holds of every index
         while let Some(block) = blocks.draw(steps) {
             if !self.known[block.index as usize] {
-                self.look_into(alloc, sought, &block, steps)?;
+                self.look_into(pending, sought, &block, steps)?;
             }
         }
         Ok(())
     }
 
     // Takes the first hit that a block has, if any, of an object that is not known.
-    fn look_into<L: Reads>(
+    fn look_into<'a, L: Reads>(
         &mut self,
-        alloc: Global,
-        sought: &Sought,
+        pending: &mut Pending<'a>,
+        sought: &Sought<'a>,
         block: &Anchored,
         steps: &mut Steps<L>,
     ) -> Result<(), Memory>
         requires block { IsBlock (snapshot_in sought.now.stores.now sought.now.period) block.now }
         requires known { block.now.index < length self.old.known.items }
+        requires rules { pending.old.rules ≡ rules_in sought.now.stores.now }
         requires may { ReadsWithin (log_needs (log_places (snapshot_in sought.now.stores.now sought.now.period)))
             L.may }
         ensures known { OnOk result (self.new.known.items ≡ known_after (first_stop_in
@@ -90,11 +94,11 @@ impl FirstHits {
             ++ option_to_list (option_map (hit_at (slice_index sought.now.stores.now.objects
             block.now.index)) (first_stop_in sought.now.stores.now sought.now.period
             sought.now.from sought.now.to sought.now.test.now.region block.now))) }
+        ensures rules { pending.new.rules ≡ pending.old.rules }
         ensures cost { steps.new ≤ steps.old + log_reads sought.now.stores.now sought.now.period
             sought.now.from sought.now.to sought.now.test.now.region block.now }
     {
-        let found = sought.first_stop(alloc, block, steps)?;
-        let Some(stop) = found else {
+        let Some(stop) = sought.first_stop(block, pending, steps) else {
             return Ok(());
         };
         self.found.push(Hit {

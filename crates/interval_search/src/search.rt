@@ -8,6 +8,7 @@ ghost use Rattle.snapshots.specs.Parts.{chart_in};
 ghost use Rattle.interval_search.specs.Cost.{interval_cost};
 
 use crate::first_hits::FirstHits;
+use log_cursor::Pending;
 use object_track::Periods;
 use region_test::RegionTest;
 use slice_search::{Sought, meets_grid};
@@ -20,7 +21,8 @@ use track_types::{Hit, Memory};
 /// first such instant and its cell there, by object.
 ///
 /// The instants and the region's coordinates are at most 2^41 away from 0, and its radius is at most
-/// 2^42. `Memory` is the only refusal: memory is taken for the answer and for a bool for each object.
+/// 2^42. `Memory` is the only refusal: memory is taken for the answer, for a bool for each object, and
+/// once, where the grammar is deep, for the parts of opened rules.
 /// Where the region has no cell of the grid, no period is gone through.
 pub fn interval<L: Reads>(
     alloc: Global,
@@ -43,6 +45,7 @@ pub fn interval<L: Reads>(
         return Ok(Vec::new(alloc));
     }
     let mut hits = FirstHits::none(alloc, stores.objects())?;
+    let mut pending = Pending::new(alloc, stores.rules())?;
     let periods = Periods::met(stores, from, to);
     for period in periods.next..periods.end {
         let sought = Sought {
@@ -53,7 +56,7 @@ pub fn interval<L: Reads>(
             test,
         };
         let mut blocks = sought.blocks();
-        hits.look(alloc, &sought, &mut blocks, steps)?;
+        hits.look(&mut pending, &sought, &mut blocks, steps)?;
     }
     Ok(hits.in_order())
 }

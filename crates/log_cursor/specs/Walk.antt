@@ -11,8 +11,9 @@ use Rattle.log_cursor.specs.Pending.{PendingView}
 use Rattle.log_cursor.specs.Start.{IsWayOf}
 use Rattle.log_cursor.specs.declared.start.Start.{Start}
 
--- the rules, where the symbols of the log stand, the stops that are left, and how many reads are still to be made for them at most: one for each unread symbol
--- of the log, and one for each rule that is opened; `begins` has the first instant of each of these rules
+-- the rules, where the symbols of the log stand, the stops that are left, and how many reads are still to be made for
+-- them at most: one for each unread symbol of the log, and one for each rule that is opened; `begins` has the first
+-- instant of each of these rules
 pub record WalkView : Type 0 where
   pub rules : RulesView
   pub places : ℕ × ℕ

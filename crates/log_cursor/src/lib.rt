@@ -15,7 +15,7 @@ mod walk;
 
 pub use descent::{Descent, Stage};
 pub use pending::Pending;
-pub use searching::{first_hit, placed};
+pub use searching::{first_hit, first_hit_with, placed};
 pub use seeking::seek;
 pub use start::Start;
 pub use walk::BlockWalk;

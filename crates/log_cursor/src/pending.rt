@@ -21,8 +21,8 @@ const INLINE: usize = 24;
 /// its two parts come next.
 ///
 /// The parts that wait are kept on a stack, which has room for those of the deepest symbol from the
-/// start. Contracts see the rules, where the symbols of the log stand, the symbols, the next one first, how many of them are still to be
-/// read, and how many parts wait.
+/// start. Contracts see the rules, where the symbols of the log stand, the symbols, the next one
+/// first, how many of them are still to be read, and how many parts wait.
 #[derive(Drop)]
 pub struct Pending<'a> {
     view: LogView<'a>,

@@ -54,16 +54,40 @@ pub fn first_hit<L: Reads>(
         + touching_count view.entry.rules.now start (log_of view.entry) from to test.now.region) }
     ensures empty { to <ℤ from → steps.new ≡ steps.old }
 {
+    let mut pending = Pending::new(alloc, view.rules())?;
+    Ok(first_hit_with(&mut pending, view, start, from, to, test, steps))
+}
+
+/// The same, with a stack of the caller's, which serves one block of the same rules after the other.
+/// What was left in it of the block before is gone. It takes no memory.
+pub fn first_hit_with<'a, L: Reads>(
+    pending: &mut Pending<'a>,
+    view: LogView<'a>,
+    start: Start,
+    from: i64,
+    to: i64,
+    test: &RegionTest,
+    steps: &mut Steps<L>,
+) -> Option<Stop>
+    requires rules { view.rules.now ≡ pending.old.rules }
+    requires placed { IsPlaced view.rules.now start (log_of view) }
+    requires may { ReadsWithin (log_needs (places_of view)) L.may }
+    ensures value { result
+        ≡ first_hit_of view.entry.rules.now (log_of view.entry) start from to test.now.region }
+    ensures rules { pending.new.rules ≡ pending.old.rules }
+    ensures cost { steps.new ≤ steps.old + (length (log_of view.entry)
+        + touching_count view.entry.rules.now start (log_of view.entry) from to test.now.region) }
+    ensures empty { to <ℤ from → steps.new ≡ steps.old }
+{
     if to < from {
-        return Ok(None);
+        return None;
     }
     let anchor = anchor_hit(start, from, to, test);
     if anchor.is_some() || to <= start.instant {
-        return Ok(anchor);
+        return anchor;
     }
-    let mut pending = Pending::new(alloc, view.rules())?;
     pending.begin(view);
-    Ok(hit_after(&mut pending, start, from, to, test, steps))
+    hit_after(pending, start, from, to, test, steps)
 }
 
 // The anchor of a block, if it is in a window and in a region.

@@ -1,11 +1,11 @@
-ghost use Rattle.std.specs.Prelude.{◌≡◌, ◌+◌, ◌<◌, ◌≤◌, length, IfOk};
+ghost use Rattle.std.specs.Prelude.{◌≡◌, ◌+◌, ◌<◌, ◌≤◌, length};
 ghost use Rattle.step_count.specs.Reads.{is_of_period, ReadsWithin};
 ghost use Rattle.std.specs.List.{sum_by};
 ghost use Rattle.track_types.specs.Frame.{periods_of};
 ghost use Rattle.track_types.specs.Region.{intersects_region};
 ghost use Rattle.rule_store.specs.Needs.{log_needs};
 ghost use Rattle.snapshots.specs.Needs.{log_places};
-ghost use Rattle.snapshots.specs.Parts.{snapshot_in};
+ghost use Rattle.snapshots.specs.Parts.{rules_in, snapshot_in};
 ghost use Rattle.snapshots.specs.Sound.{IsBlock};
 ghost use Rattle.snapshots.specs.TrackWalk.{tracks_needs};
 ghost use Rattle.slice_search.specs.Cost.{period_search_cost};
@@ -14,13 +14,12 @@ ghost use Rattle.slice_search.specs.Sought.{first_stop_in, latest_in, log_reads,
 ghost use Rattle.slice_search.specs.Walk.{sought_budget, sought_left};
 
 use crate::reach::{Reach, latest_of};
-use log_cursor::first_hit;
+use log_cursor::{Pending, first_hit_with};
 use object_track::Placed;
 use region_test::RegionTest;
 use snapshots::{Anchored, Stores, Tracks};
-use std::alloc::Global;
 use step_count::{Reads, Steps};
-use track_types::{Memory, Stop};
+use track_types::Stop;
 
 /// What is sought in one period: the objects that are in a region at some instant of a window, and
 /// where each of them is first.
@@ -64,26 +63,29 @@ impl<'a> Sought<'a> {
         self.stores.tracks(self.period, reach)
     }
 
-    /// The first stop of a block in the window and the region. `Memory` is the only refusal.
+    /// The first stop of a block in the window and the region. The stack is of the stores' rules, and
+    /// serves one block after the other. It takes no memory.
     pub fn first_stop<L: Reads>(
         &self,
-        alloc: Global,
         block: &Anchored,
+        pending: &mut Pending<'a>,
         steps: &mut Steps<L>,
-    ) -> Result<Option<Stop>, Memory>
+    ) -> Option<Stop>
         requires block { IsBlock (snapshot_in self.now.stores.now self.now.period) block.now }
+        requires rules { pending.old.rules ≡ rules_in self.now.stores.now }
         requires may { ReadsWithin (log_needs (log_places (snapshot_in self.now.stores.now self.now.period)))
             L.may }
-        ensures value { IfOk result (λ found. found ≡ first_stop_in self.now.stores.now
-            self.now.period self.now.from self.now.to self.now.test.now.region block.now) }
+        ensures value { result ≡ first_stop_in self.now.stores.now self.now.period self.now.from
+            self.now.to self.now.test.now.region block.now }
+        ensures rules { pending.new.rules ≡ pending.old.rules }
         ensures object { block.now.index < length self.now.stores.now.objects }
         ensures cost { steps.new ≤ steps.old + log_reads self.now.stores.now self.now.period
             self.now.from self.now.to self.now.test.now.region block.now }
     {
         let _ = self.stores.frame(); // says what holds of every index
         let placed = Placed::new(self.stores, self.period, block);
-        first_hit(
-            alloc,
+        first_hit_with(
+            pending,
             placed.log,
             placed.start,
             self.from,

@@ -42,6 +42,7 @@ loop-period-init g c =
     record {
       least = omega arith;
       most = c.met-periods.ensures.ordered;
+      rules = c.in_ok-pending.ensures.rules ∙ c.rules.ensures;
       first = subst (λ known. AreFirst parts low high region next known c.in_ok-hits.hits.found.items)
           (sym (c.in_ok-hits.ensures.known ∙ ap (λ n. replicate n false) c.objects.ensures.value))
           (subst (λ found. AreFirst parts low high region next (replicate (length parts.objects) false) found)
@@ -91,6 +92,7 @@ loop-period-preserved g c =
     record {
       least = omega (arith, c.loop-period.invariant.least);
       most = omega (arith, c.loop-period-test.true);
+      rules = c.look.ensures.rules ∙ c.loop-period.invariant.rules;
       first = c.in_ok-look.ensures.first;
       reads = omega (
         arith,

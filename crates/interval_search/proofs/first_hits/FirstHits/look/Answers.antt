@@ -25,6 +25,7 @@ loop-block-init g c =
       looking = looking-begins sought.stores.now sought.from sought.to sought.test.now.region valid sought.period sought.known
           (g.W.Lazy.left c.args.blocks.now) c.args.self.now.known.items c.args.self.now.found.items c.requires.first
           c.requires.blocks;
+      rules = c.requires.rules;
       may = c.requires.may;
       reads = omega arith;
     }
@@ -89,6 +90,7 @@ loop-block-preserved-in-Continue-1 g c =
           items (found ++ option_to_list (option_map (hit_at (slice_index sought.stores.now.objects block.index))
           (first_stop_in sought.stores.now sought.period sought.from sought.to sought.test.now.region block))))
           (sym c.in_ok-look_into.ensures.known) into);
+      rules = c.look_into.ensures.rules ∙ c.loop-block.invariant.rules;
       may = λ read needed. c.loop-block.invariant.may read (c.in-Some.ensures.needs read needed);
       reads = omega (
         arith,
@@ -117,6 +119,7 @@ loop-block-preserved g c =
     record {
       looking = looking-skips sought.stores.now sought.from sought.to sought.test.now.region (valid g at) sought.period
           sought.known block left known c.loop-block.self.found.items (looking g at) old;
+      rules = c.loop-block.invariant.rules;
       may = λ read needed. c.loop-block.invariant.may read (c.in-Some.ensures.needs read needed);
       reads = omega (arith, c.in-Some.ensures.cost, c.loop-block.invariant.reads, cost, next);
     }

@@ -1,10 +1,8 @@
-use Rattle.std.proofs.Common.{◌≡◌, w64, to_z, of_z, ◌∙◌, arith}
+use Rattle.std.proofs.Common.{◌≡◌, w64, to_z, of_z, ◌∙◌, sym, arith}
 use Rattle.std.proofs.lemmas.Int.{ints}
-use Rattle.std.proofs.lemmas.Result.{IfOk-weaker}
 use Rattle.snapshots.specs.SoundParts.{IsValid}
 use Rattle.object_track.proofs.BlockLemmas.{block-known}
 use Rattle.rule_store.specs.Log.{log_of}
-use Rattle.slice_search.specs.Sought.{first_stop_in}
 use Rattle.slice_search.proofs.HitLemmas.{first_stop-found, log_reads-found}
 use Rattle.rule_store.specs.Needs.{places_of}
 use Rattle.snapshots.specs.Parts.{snapshot_in}
@@ -20,8 +18,7 @@ returns-clause-value g c =
     let same = first_stop-found self.stores.now self.period self.from self.to _ _ low high self.test.now.region
     c.args.block.now c.new-placed.result.log.rules.now (log_of c.new-placed.result.log) c.new-placed.result.start
     placed.rules placed.log placed.start in
-    IfOk-weaker c.first_hit.result _ (λ found. found ≡ first_stop_in self.stores.now self.period self.from self.to
-    self.test.now.region c.args.block.now) (λ found is. is ∙ same) c.first_hit.ensures.value
+    c.first_hit_with.ensures.value ∙ same
 
 pub returns-clause-object : goal.returns-clause-object
 returns-clause-object g c =
@@ -38,10 +35,13 @@ returns-clause-cost g c =
     let most = log_reads-found self.stores.now self.period self.from self.to _ _ low high self.test.now.region
     c.args.block.now c.new-placed.result.log.rules.now (log_of c.new-placed.result.log) c.new-placed.result.start
     placed.rules placed.log placed.start in
-    omega (arith, most, c.first_hit.ensures.cost)
+    omega (arith, most, c.first_hit_with.ensures.cost)
 
-pub first_hit-requires-clause-may : goal.first_hit-requires-clause-may
-first_hit-requires-clause-may g c =
+pub first_hit_with-requires-clause-rules : goal.first_hit_with-requires-clause-rules
+first_hit_with-requires-clause-rules g c = c.new-placed.ensures.rules ∙ sym c.requires.rules
+
+pub first_hit_with-requires-clause-may : goal.first_hit_with-requires-clause-may
+first_hit_with-requires-clause-may g c =
     let self = c.args.self.now in
     within-block g.L.Reads.may (snapshot_in self.stores.now self.period) c.args.block.now
     (places_of c.new-placed.result.log) c.requires.block c.new-placed.ensures.places c.requires.may
