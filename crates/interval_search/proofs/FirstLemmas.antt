@@ -1,8 +1,8 @@
 -- A search for first hits: from one block to the next, and from one period to the next.
-use Rattle.std.proofs.Common.{◌≡◌, ℕ, zero, suc, ◌+◌, ◌<◌, ◌≤◌, ℤ, Bool, true, false, List, [], ◌∷◌, ◌++◌, All, length, ◌-◌}
+use Rattle.std.proofs.Common.{◌≡◌, ℕ, zero, suc, ◌+◌, ◌<◌, ◌≤◌, ℤ, Bool, true, false, List, [], ◌∷◌, ◌++◌, length, ◌-◌}
 use Rattle.std.proofs.Common.{filter, Option, None, Some, inl, inr, refl, ap, sym, subst, ◌∙◌, arith}
-use Rattle.std.specs.Prelude.{◌==◌, ◌||◌, if◌then◌else◌, is_some, replicate, slice_index, slice_set}
-use Rattle.std.specs.List.{filter_map, flat_map, list_any, range_with_len, sum_by}
+use Rattle.std.specs.Prelude.{◌==◌, if◌then◌else◌, is_some, replicate, slice_index, slice_set}
+use Rattle.std.specs.List.{flat_map, list_any, range_with_len, sum_by}
 use Rattle.std.specs.Option.{option_map, option_or, option_to_list}
 use Rattle.std.proofs.lemmas.Bool.{cases_Bool, eq-eqb}
 use Rattle.std.proofs.lemmas.Bool.Decides.{nat_tests}
@@ -13,7 +13,6 @@ use Rattle.std.proofs.lemmas.List.Sums.{sum_by-append, sum_by-cons}
 use Rattle.list_laws.proofs.FilterLemmas.{sum_by-filter}
 use Rattle.list_laws.proofs.RangeLemmas.{flat_map-range_next}
 use Rattle.list_laws.proofs.SumLemmas.{made_weight, sum_by-filter_map, sum_by-range_agree}
-use Rattle.track_types.specs.ByFilter.{path_of}
 use Rattle.track_types.specs.Frame.{periods_of}
 use Rattle.track_types.specs.Region.{in_region, intersects_region}
 use Rattle.track_types.specs.declared.hit.Hit.{Hit}
@@ -22,7 +21,7 @@ use Rattle.track_types.specs.declared.region.Region.{Region}
 use Rattle.track_types.specs.declared.stop.Stop.{Stop}
 use Rattle.rule_store.specs.Log.{in_window}
 use Rattle.log_cursor.specs.Touching.{first_among, first_hit_of}
-use Rattle.snapshots.specs.Parts.{chart_in, snapshot_in, stops_in, stops_in_block}
+use Rattle.snapshots.specs.Parts.{snapshot_in, stops_in, stops_in_block}
 use Rattle.snapshots.specs.Sound.{IsBlock}
 use Rattle.snapshots.specs.SoundParts.{IsValid}
 use Rattle.snapshots.specs.View.{SnapshotView, block_of}

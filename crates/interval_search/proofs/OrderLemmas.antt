@@ -1,5 +1,5 @@
 -- What a search through all periods has found, put in order by object, is the answer.
-use Rattle.std.proofs.Common.{◌≡◌, ℕ, ◌+◌, ◌-◌, ◌≤◌, ◌<◌, ℤ, Bool, true, false, List, [], ◌∷◌, All, length, map, filter, get_or}
+use Rattle.std.proofs.Common.{◌≡◌, ℕ, ◌+◌, ◌-◌, ◌<◌, ℤ, Bool, false, List, [], ◌∷◌, All, length, map, filter}
 use Rattle.std.proofs.Common.{Option, None, Some, inl, inr, refl, ap, sym, subst, ◌∙◌, zero-add, arith}
 use Rattle.std.specs.Prelude.{replicate, slice_index}
 use Rattle.std.specs.List.{filter_map, range_with_len, sum_by}
@@ -33,7 +33,7 @@ use Rattle.object_track.specs.Met.{AreMet, IsMissed}
 use Rattle.object_track.proofs.ChartLemmas.{in_window-missed}
 use Rattle.object_track.proofs.TableLemmas.{IsTable-chart_in}
 use Rattle.track_types.specs.Frame.{grid_of}
-use Rattle.interval_search.specs.FirstHits.{first_here, first_hit, hit_at, is_known, known_hits, AreFirst, IsFirstHit}
+use Rattle.interval_search.specs.FirstHits.{first_here, first_hit, hit_at, is_known, AreFirst, IsFirstHit}
 use Rattle.interval_search.proofs.FirstLemmas.{counted, first-begins, first-through, here-beside, hit-before, known-weigh}
 use Rattle.interval_search.proofs.ListingLemmas.{hits-listed}
 

@@ -24,12 +24,12 @@ use track_types::{Hit, Memory};
 /// 2^42. `Memory` is the only refusal: memory is taken for the answer, for a bool for each object, and
 /// once, where the grammar is deep, for the parts of opened rules.
 /// Where the region has no cell of the grid, no period is gone through.
-pub fn interval<L: Reads>(
+pub fn interval<'a, L: Reads>(
     alloc: Global,
-    stores: &Stores,
+    stores: &'a Stores,
     from: i64,
     to: i64,
-    test: &RegionTest,
+    test: &'a RegionTest,
     steps: &mut Steps<L>,
 ) -> Result<Vec<Hit>, Memory>
     requires from { IsAsked from }

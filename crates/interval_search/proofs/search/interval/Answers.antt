@@ -1,4 +1,4 @@
-use Rattle.std.proofs.Common.{◌≡◌, ◌+◌, ◌-◌, ◌<◌, ◌≤◌, ◌∙◌, ℕ, ℤ, List, Bool, IsTrue, false, true, length, w64, to_z, of_z, arith, ap, sym, subst}
+use Rattle.std.proofs.Common.{◌≡◌, ◌∙◌, ℕ, ℤ, List, Bool, IsTrue, false, true, length, w64, to_z, of_z, arith, ap, sym, subst}
 use Rattle.std.specs.Prelude.{replicate}
 use Rattle.std.proofs.lemmas.Int.{ints}
 use Rattle.step_count.specs.Reads.{ofPeriod}
@@ -42,7 +42,7 @@ loop-period-init g c =
     record {
       least = omega arith;
       most = c.met-periods.ensures.ordered;
-      rules = c.in_ok-pending.ensures.rules ∙ c.rules.ensures;
+      rules = c.in_ok-pending.ensures.rules ∙ c.rules.ensures.value;
       first = subst (λ known. AreFirst parts low high region next known c.in_ok-hits.hits.found.items)
           (sym (c.in_ok-hits.ensures.known ∙ ap (λ n. replicate n false) c.objects.ensures.value))
           (subst (λ found. AreFirst parts low high region next (replicate (length parts.objects) false) found)

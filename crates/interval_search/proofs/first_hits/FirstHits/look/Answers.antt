@@ -1,4 +1,4 @@
-use Rattle.std.proofs.Common.{◌≡◌, ◌+◌, ◌<◌, ◌++◌, ◌∷◌, List, Bool, true, false, length, ap, subst, sym, refl, ◌∙◌, arith, rules, vec_len}
+use Rattle.std.proofs.Common.{◌≡◌, ◌<◌, ◌++◌, ◌∷◌, List, Bool, true, false, length, ap, subst, sym, refl, ◌∙◌, arith, rules, vec_len}
 use Rattle.std.specs.Prelude.{option_map, slice_index}
 use Rattle.std.specs.List.{sum_by}
 use Rattle.std.specs.Option.{option_to_list}
@@ -11,7 +11,7 @@ use Rattle.snapshots.specs.Sound.{IsBlock}
 use Rattle.snapshots.specs.SoundParts.{IsValid}
 use Rattle.snapshots.specs.declared.anchored.Anchored.{Anchored}
 use Rattle.slice_search.specs.Sought.{first_stop_in, log_reads}
-use Rattle.interval_search.specs.FirstHits.{hit_at, is_known, known_after, IsLooking}
+use Rattle.interval_search.specs.FirstHits.{hit_at, is_known, IsLooking}
 use Rattle.interval_search.proofs.FirstLemmas.{looking-begins, looking-ends, looking-into, looking-skips, next-within}
 use Rattle.interval_search.proofs.first_hits.FirstHits.look.Given.{Over}
 use Rattle.interval_search.proofs.first_hits.FirstHits.look.Goals as goal
