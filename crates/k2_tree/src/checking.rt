@@ -8,7 +8,8 @@ use crate::groups::{fan_of, width_below};
 use crate::upper::ones_within;
 use track_types::BitList;
 
-/// The place of the first flaw of bits that are no tree's of this height, in one pass over them.
+/// The place of the first flaw of bits that are no tree's of this height, in one pass over them, and
+/// `None` if and only if they are a tree's.
 ///
 /// Each level has as many groups as the level above it has ones, and the first has one. A group of
 /// the `wide` upper levels has sixteen bits, and one of the others four. No memory is taken.

@@ -104,7 +104,7 @@ impl K2Tree {
         }
     }
 
-    /// Takes bits as a tree with `wide` wide levels, in one pass over them.
+    /// Takes bits as a tree with `wide` wide levels, in two passes over them.
     ///
     /// There are at most `MAX_TREE` bits. The height is from 1 to `MAX_HEIGHT`, each wide level takes
     /// two of it, and the base's coordinates are within `MAX_ASKED` of 0. `Flaw` says at which place

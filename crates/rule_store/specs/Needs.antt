@@ -13,7 +13,7 @@ rule_needs (ofPeriod period) = false
 rule_needs (ofRule rule) = true
 rule_needs (ofSymbol place) = false
 
--- the reads of a log whose symbols stand at these places among all: of rules, and of these symbols
+-- the reads of a log whose symbols stand at these places among all: of any rule, and of these symbols
 abbrev pub log_needs : ℕ × ℕ → Read → Bool
 log_needs places (ofPeriod period) = false
 log_needs places (ofRule rule) = true

@@ -1,4 +1,4 @@
-ghost use Rattle.std.specs.Prelude.{◌≡◌, ◌^◌, ◌≤◌, ◌≤ℤ◌, IfSome, pos};
+ghost use Rattle.std.specs.Prelude.{◌≡◌, ◌^◌, ◌≤◌, ◌≤ℤ◌, IfSome};
 ghost use Rattle.track_types.specs.declared.limit.TheConstants.{MAX_PERIOD};
 
 use crate::packed_box::PackedBox;

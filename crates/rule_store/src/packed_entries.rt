@@ -83,8 +83,9 @@ impl PackedEntries {
     }
 }
 
-// Whether entries begin in 16 bytes. In such a grid and such periods those of a grammar fit: a displacement and a box are at most
-// 32,767 away from 0, and no symbol lasts a whole period or is as deep as it lasts.
+// Whether entries begin in 16 bytes. In such a grid and such periods those of a grammar fit: a
+// displacement and a box are at most 32,767 away from 0, a terminal lasts one instant, and no rule
+// lasts a whole period or is as deep as it lasts.
 fn are_narrow(height: u32, period: u32) -> bool {
     height <= 15 && period <= 65_535
 }

@@ -70,8 +70,8 @@ impl Index {
         Ok(Index { stores })
     }
 
-    // The index of what a file holds. Parts of which anything was found are those of an index, and their rules and logs are not
-    // judged again.
+    // The index of what a file holds. Parts of which anything was found are those of an index, and
+    // nothing of them is judged again.
     fn of_file<L: Reads>(
         alloc: Global,
         read: FileParts,
