@@ -1,13 +1,15 @@
 -- Places of the desk.
 use Rattle.std.proofs.Common.{◌≡◌, ℕ, ◌+◌, ◌<◌, zero, suc, ◌≤◌, List, [], ◌∷◌, ◌++◌, length, map, set, get_or, sym}
-use Rattle.std.proofs.Common.{refl, ap, ◌∙◌, arith, inl, inr}
+use Rattle.std.proofs.Common.{refl, ap, ◌∙◌, arith, inl, inr, Bool}
 use Rattle.std.specs.Prelude.{Option, Some, None, is_some, option_map}
 use Rattle.std.specs.Option.{option_map_or}
 use Rattle.std.proofs.lemmas.Bool.{cases_lt}
 use Rattle.std.proofs.lemmas.List.{get_or-map, get_or-set_same, length-map, map-set, set-get_or}
 use Rattle.std.proofs.lemmas.List.Sums.{sum_by-set}
+use Rattle.step_count.specs.Reads.{Read, ReadsWithin}
 use Rattle.track_types.specs.declared.stop.Stop.{Stop}
-use Rattle.question_shell.specs.Desk.{DeskView, Draws, budget_in, budget_of, held_of, is_held_in, slot_walk, slot_stops}
+use Rattle.question_shell.specs.Desk.{DeskView, Draws, MayDraw, NeedsNoMore, budget_in, budget_of, held_of, is_held_in}
+use Rattle.question_shell.specs.Desk.{no_needs, slot_walk, slot_stops}
 use Rattle.question_shell.specs.Items.{stops_at}
 
 -- a desk by its places, of which each shows what is seen of its walk
@@ -118,3 +120,29 @@ module _ (before between : DeskView) (slot start here : ℕ) (draws : Draws befo
         let same : between ≡ before = draws.others ∙ set_beyond before slot (slot_walk between slot) beyond in
         omega (arith, draws.cost, ap budget_of same, ap (λ desk. budget_in desk slot) same)
   ]
+
+-- nothing is needed
+pub within-none : (may : Read → Bool) → ReadsWithin no_needs may
+within-none may read none = absurd (cc none)
+
+module _ {W : Type 0} (needs : W → Read → Bool) where
+  -- what is needed where a place was given another walk, or none
+  pub needs-set : (may : Read → Bool) (walks : List (Option W)) (slot : ℕ) (place : Option W) → MayDraw needs walks may →
+      ReadsWithin (option_map_or needs place no_needs) may → MayDraw needs (set walks slot place) may
+  needs-set may [] slot place held own other = held other
+  needs-set may (first ∷ walks) zero place held own zero = own
+  needs-set may (first ∷ walks) zero place held own (suc other) = held (suc other)
+  needs-set may (first ∷ walks) (suc slot) place held own zero = held zero
+  needs-set may (first ∷ walks) (suc slot) place held own (suc other) =
+      needs-set may walks slot place (λ other. held (suc other)) own other
+
+  -- what is needed where the walk in a place was drawn from
+  pub needs-drawn : (walks : List (Option W)) (slot : ℕ) (old new : W) (default : Option W) →
+      get_or walks slot default ≡ Some old → ReadsWithin (needs new) (needs old) →
+      NeedsNoMore needs walks (set walks slot (Some new))
+  needs-drawn [] slot old new default place within other = λ read is. is
+  needs-drawn (first ∷ walks) zero old new default place within zero = rw place within
+  needs-drawn (first ∷ walks) zero old new default place within (suc other) = λ read is. is
+  needs-drawn (first ∷ walks) (suc slot) old new default place within zero = λ read is. is
+  needs-drawn (first ∷ walks) (suc slot) old new default place within (suc other) =
+      needs-drawn walks slot old new default place within other

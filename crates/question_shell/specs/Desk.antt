@@ -1,8 +1,9 @@
 -- The desk: 16 places for held walks.
-use Rattle.std.specs.Prelude.{◌≡◌, ℕ, ◌+◌, ◌≤◌, Bool, List, [], map, replicate, Option, None, option_map, is_some}
+use Rattle.std.specs.Prelude.{◌≡◌, ℕ, ◌+◌, ◌≤◌, Bool, false, List, [], map, replicate, Option, None, option_map, is_some}
 use Rattle.std.specs.Prelude.{slice_index_or, slice_set}
 use Rattle.std.specs.Option.{option_map_or}
 use Rattle.std.specs.List.{sum_by}
+use Rattle.step_count.specs.Reads.{Read, ReadsWithin}
 use Rattle.track_types.specs.declared.stop.Stop.{Stop}
 
 -- each place is empty, or holds the stops that are left of a walk, and how many reads it may still make for them
@@ -43,3 +44,29 @@ pub record Draws (before now : DeskView) (slot start end : ℕ) : Type 0 where
   pub held : is_held_in now slot ≡ is_held_in before slot
   pub others : now ≡ slice_set before slot (slot_walk now slot)
   pub cost : end + budget_in now slot ≤ start + budget_in before slot
+
+-- A desk: what is seen of its places, and the walks in them.
+pub record DeskState (W : Type 0) : Type 0 where
+  pub view : DeskView
+  pub walks : List (Option W)
+
+-- 16 empty places, without a walk
+abbrev pub empty_state : {W : Type 0} → DeskState W
+empty_state = record { view = empty_desk; walks = replicate 16 None }
+
+-- no read
+abbrev pub no_needs : Read → Bool
+no_needs read = false
+
+module _ {W : Type 0} (needs : W → Read → Bool) where
+  -- the reads that the walk in a place needs; none where it is empty
+  abbrev pub slot_needs : List (Option W) → ℕ → Read → Bool
+  slot_needs walks slot = option_map_or needs (slice_index_or walks slot None) no_needs
+
+  -- each walk that a place holds needs only what may be read
+  abbrev pub MayDraw : List (Option W) → (Read → Bool) → Type 0
+  MayDraw walks may = (slot : ℕ) → ReadsWithin (slot_needs walks slot) may
+
+  -- no place needs more than it did before
+  abbrev pub NeedsNoMore : List (Option W) → List (Option W) → Type 0
+  NeedsNoMore before now = (slot : ℕ) → ReadsWithin (slot_needs now slot) (slot_needs before slot)

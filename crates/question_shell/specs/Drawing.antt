@@ -1,9 +1,10 @@
 -- What is left of an answer, while its items are drawn.
-use Rattle.std.specs.Prelude.{◌≡◌, ℕ, ◌+◌, ◌<◌, ◌≤◌, ◌^◌, ⊤, List, [], ◌++◌, drop, length, map, take, Option, Some, None, Ok}
+use Rattle.std.specs.Prelude.{◌≡◌, ℕ, ◌+◌, ◌<◌, ◌≤◌, ◌^◌, ⊤, Bool, List, [], ◌++◌, drop, length, map, take, Option, Some, None, Ok}
 use Rattle.std.specs.Prelude.{option_map, option_to_list, slice_set}
+use Rattle.step_count.specs.Reads.{Read, ReadsWithin}
 use Rattle.track_types.specs.declared.question.Question.{Question}
 use Rattle.track_types.specs.declared.stop.Stop.{Stop}
-use Rattle.question_shell.specs.Desk.{DeskView, budget_of, held_of, slot_stops}
+use Rattle.question_shell.specs.Desk.{DeskView, MayDraw, NeedsNoMore, budget_of, held_of, no_needs, slot_needs, slot_stops}
 use Rattle.question_shell.specs.Items.{items_of, stops_at}
 use Rattle.question_shell.specs.Reply.{asked_cost, desk_of, free_line, held_line, refusal_of}
 use Rattle.question_shell.specs.Session.{Meaning}
@@ -70,3 +71,20 @@ pub record IsAnswer {W : Type 0} (left : W → List Stop) (budget : W → ℕ) (
   pub held : desk_left left budget answer desk ≡ desk_of meaning.chart (held_of before) asked
   pub reads : end + reads_left left budget answer desk
       ≤ start + budget_of before + asked_cost meaning.cost (held_of before) (Ok (Some asked))
+
+module _ {W : Type 0} (needs : W → Read → Bool) where
+  -- the reads that the items of an answer need: those of its walk, or of the walk in its slot
+  abbrev pub needs_left : Answer W → List (Option W) → Read → Bool
+  needs_left (answer.Walk walk) walks = needs walk
+  needs_left (answer.More slot count) walks = slot_needs needs walks slot
+  needs_left other walks = no_needs
+
+  -- From one moment to a later one neither an answer nor a walk on the desk needs more than before.
+  pub record AnswerNeeds (before now : Answer W) (walks after : List (Option W)) : Type 0 where
+    pub own : ReadsWithin (needs_left now after) (needs_left before walks)
+    pub held : NeedsNoMore needs walks after
+
+  -- An answer, and each walk on the desk, needs only what may be read.
+  pub record MayAnswer (may : Read → Bool) (answer : Answer W) (walks : List (Option W)) : Type 0 where
+    pub own : ReadsWithin (needs_left answer walks) may
+    pub held : MayDraw needs walks may

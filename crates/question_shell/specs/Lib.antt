@@ -3,6 +3,7 @@ pub mod NumberWords
 pub mod RegionWords
 pub mod Grammar
 pub mod Desk
+pub mod Needs
 pub mod SlotParts
 pub mod Items
 pub mod Reply

@@ -1,7 +1,8 @@
 ghost use Rattle.std.specs.Prelude.{◌≡◌, ◌<◌, ◌++◌, [], IfNone, drop, option_to_list, take};
-ghost use Rattle.step_count.specs.Reads.{AllMay};
-ghost use Rattle.question_shell.specs.Desk.{Draws, slot_stops};
-ghost use Rattle.question_shell.specs.Drawing.{GivesItems, IsDrawn, IsOfDesk, refusal_left};
+ghost use Rattle.step_count.specs.Reads.{ReadsWithin};
+ghost use Rattle.question_shell.specs.Desk.{Draws, NeedsNoMore, slot_needs, slot_stops};
+ghost use Rattle.question_shell.specs.Drawing.{AnswerNeeds, GivesItems, IsDrawn, IsOfDesk};
+ghost use Rattle.question_shell.specs.Drawing.{needs_left, refusal_left};
 ghost use Rattle.question_shell.specs.Reply.{last_line};
 
 use crate::desk::Desk;
@@ -47,10 +48,11 @@ impl<W: Lazy<Item = Stop> + Drop> Answer<W> {
         steps: &mut Steps<L>,
     ) -> Option<Item>
         requires slot { IsOfDesk self.old }
-        requires may { AllMay L.may }
-        ensures gives { GivesItems W.left W.budget self.old self.new desk.old desk.new steps.old steps.new
-            (option_to_list result) }
-        ensures none { IfNone result (IsDrawn W.left W.budget self.new desk.new) }
+        requires may { ReadsWithin (needs_left W.needs self.old desk.old.walks) L.may }
+        ensures gives { GivesItems W.left W.budget self.old self.new desk.old.view desk.new.view
+            steps.old steps.new (option_to_list result) }
+        ensures needs { AnswerNeeds W.needs self.old self.new desk.old.walks desk.new.walks }
+        ensures none { IfNone result (IsDrawn W.left W.budget self.new desk.new.view) }
     {
         match self {
             Answer::One(item) => item.take(),
@@ -84,13 +86,14 @@ fn draw_more<W: Lazy<Item = Stop> + Drop, L: Reads>(
     steps: &mut Steps<L>,
 ) -> Option<Stop>
     requires slot { slot < 16 }
-    requires may { AllMay L.may }
-    ensures found { take count.old (slot_stops desk.old slot)
-        ≡ option_to_list result ++ take count.new (slot_stops desk.new slot) }
-    ensures left { drop count.new (slot_stops desk.new slot)
-        ≡ drop count.old (slot_stops desk.old slot) }
-    ensures none { IfNone result (take count.new (slot_stops desk.new slot) ≡ []) }
-    ensures draws { Draws desk.old desk.new slot steps.old steps.new }
+    requires may { ReadsWithin (slot_needs W.needs desk.old.walks slot) L.may }
+    ensures found { take count.old (slot_stops desk.old.view slot)
+        ≡ option_to_list result ++ take count.new (slot_stops desk.new.view slot) }
+    ensures left { drop count.new (slot_stops desk.new.view slot)
+        ≡ drop count.old (slot_stops desk.old.view slot) }
+    ensures none { IfNone result (take count.new (slot_stops desk.new.view slot) ≡ []) }
+    ensures draws { Draws desk.old.view desk.new.view slot steps.old steps.new }
+    ensures needs { NeedsNoMore W.needs desk.old.walks desk.new.walks }
 {
     if *count == 0 {
         return None;

@@ -1,10 +1,11 @@
-ghost use Rattle.std.specs.Prelude.{◌≡◌, ℕ, ◌+◌, ◌<◌, ◌≤◌, IfOk, OnErr, Ok, Some, true};
-ghost use Rattle.step_count.specs.Reads.{AllMay};
+ghost use Rattle.std.specs.Prelude.{◌≡◌, ℕ, ◌+◌, ◌<◌, ◌≤◌, Bool, IfOk, List, OnErr, Ok, Option, Some, true};
+ghost use Rattle.step_count.specs.Reads.{Read, ReadsWithin};
 ghost use Rattle.std.specs.Prelude.{map, option_to_list};
 ghost use Rattle.track_types.specs.declared.question.Question.TheVariants as question;
-ghost use Rattle.question_shell.specs.Desk.{DeskView, held_of};
-ghost use Rattle.question_shell.specs.Drawing.{IsAnswer};
+ghost use Rattle.question_shell.specs.Desk.{DeskView, MayDraw, held_of};
+ghost use Rattle.question_shell.specs.Drawing.{IsAnswer, MayAnswer};
 ghost use Rattle.question_shell.specs.Grammar.{AreAsked};
+ghost use Rattle.question_shell.specs.Needs.{question_needs};
 ghost use Rattle.question_shell.specs.Reply.{asked_cost};
 ghost use Rattle.question_shell.specs.Session.{Meaning, meaning_by, takes_memory};
 ghost use Rattle.question_shell.specs.SlotParts.{OfNoSlot, slot_part};
@@ -29,14 +30,16 @@ pub(crate) fn ask<A: Meets, L: Reads>(
     steps: &mut Steps<L>,
 ) -> Result<Answer<A::Walk>, Memory>
     requires asked { AreAsked question.now }
-    requires may { AllMay L.may }
+    requires may { ReadsWithin (question_needs (A.needs answerer) question.now) L.may }
+    requires held { MayDraw A.Walk.needs desk.old.walks L.may }
     ensures ok { IfOk result (λ answer. IsAnswer A.Walk.left A.Walk.budget
         (meaning_by A.Answerer answerer)
-        question.now desk.old steps.old answer desk.new steps.new) }
-    ensures takes { OnErr result (takes_memory (held_of desk.old) (Ok (Some question.now)) ≡ true) }
+        question.now desk.old.view steps.old answer desk.new.view steps.new) }
+    ensures takes { OnErr result (takes_memory (held_of desk.old.view) (Ok (Some question.now)) ≡ true) }
     ensures desk { OnErr result (desk.new ≡ desk.old) }
     ensures reads { OnErr result (steps.new
-        ≤ steps.old + asked_cost (A.cost answerer) (held_of desk.old) (Ok (Some question.now))) }
+        ≤ steps.old + asked_cost (A.cost answerer) (held_of desk.old.view) (Ok (Some question.now))) }
+    ensures may { IfOk result (λ answer. MayAnswer A.Walk.needs L.may answer desk.new.walks) }
 {
     match question {
         Question::Hold {
@@ -61,7 +64,7 @@ fn ask_chart<A: Meets, L: Reads>(
 ) -> Result<Answer<A::Walk>, Memory>
     requires asked { AreAsked question.now }
     requires part { slot_part question.now ≡ OfNoSlot }
-    requires may { AllMay L.may }
+    requires may { ReadsWithin (question_needs (A.needs answerer) question.now) L.may }
     ensures ok { (desk : DeskView) → IfOk result (λ answer. IsAnswer A.Walk.left A.Walk.budget
         (meaning_by A.Answerer answerer)
         question.now desk steps.old answer desk steps.new) }
@@ -69,6 +72,8 @@ fn ask_chart<A: Meets, L: Reads>(
         (takes_memory (held_of desk) (Ok (Some question.now)) ≡ true) }
     ensures reads { (desk : DeskView) → OnErr result (steps.new
         ≤ steps.old + asked_cost (A.cost answerer) (held_of desk) (Ok (Some question.now))) }
+    ensures may { IfOk result (λ answer. (walks : List (Option A.Walk)) →
+        MayDraw A.Walk.needs walks L.may → MayAnswer A.Walk.needs L.may answer walks) }
 {
     // The rows of an answerer ascend, so that a count of stops fits.
     let facts = answerer.facts();
@@ -139,10 +144,14 @@ fn hold<A: Meets>(
     requires { AreAsked (question.Hold slot object from to) }
     ensures ok { (steps : ℕ) → IfOk result (λ answer. IsAnswer A.Walk.left A.Walk.budget
         (meaning_by A.Answerer answerer)
-        (question.Hold slot object from to) desk.old steps answer desk.new steps) }
-    ensures takes { OnErr result (takes_memory (held_of desk.old)
+        (question.Hold slot object from to) desk.old.view steps answer desk.new.view steps) }
+    ensures takes { OnErr result (takes_memory (held_of desk.old.view)
         (Ok (Some (question.Hold slot object from to))) ≡ true) }
     ensures desk { OnErr result (desk.new ≡ desk.old) }
+    ensures may { (may : Read → Bool) →
+        ReadsWithin (question_needs (A.needs answerer) (question.Hold slot object from to)) may →
+        MayDraw A.Walk.needs desk.old.walks may →
+        IfOk result (λ answer. MayAnswer A.Walk.needs may answer desk.new.walks) }
 {
     if desk.is_held(slot) {
         return Ok(Answer::Held);
@@ -155,8 +164,10 @@ fn hold<A: Meets>(
 // The next stops of a slot.
 fn more<W: Lazy<Item = Stop> + Drop>(desk: &Desk<W>, slot: u8, count: u32) -> Answer<W>
     requires { slot < 16 }
-    ensures { (meaning : Meaning) → (steps : ℕ) → IsAnswer W.left W.budget meaning
-        (question.More slot count) desk.now steps result desk.now steps }
+    ensures answer { (meaning : Meaning) → (steps : ℕ) → IsAnswer W.left W.budget meaning
+        (question.More slot count) desk.now.view steps result desk.now.view steps }
+    ensures may { (may : Read → Bool) → MayDraw W.needs desk.now.walks may →
+        MayAnswer W.needs may result desk.now.walks }
 {
     if desk.is_held(slot) {
         Answer::More { slot, count }
@@ -168,8 +179,10 @@ fn more<W: Lazy<Item = Stop> + Drop>(desk: &Desk<W>, slot: u8, count: u32) -> An
 // Empties a slot.
 fn free<W: Lazy<Item = Stop> + Drop>(desk: &mut Desk<W>, slot: u8) -> Answer<W>
     requires { slot < 16 }
-    ensures { (meaning : Meaning) → (steps : ℕ) → IsAnswer W.left W.budget meaning
-        (question.Free slot) desk.old steps result desk.new steps }
+    ensures answer { (meaning : Meaning) → (steps : ℕ) → IsAnswer W.left W.budget meaning
+        (question.Free slot) desk.old.view steps result desk.new.view steps }
+    ensures may { (may : Read → Bool) → MayDraw W.needs desk.old.walks may →
+        MayAnswer W.needs may result desk.new.walks }
 {
     let Some(_) = desk.release(slot) else {
         return Answer::Free;

@@ -1,9 +1,10 @@
 ghost use Rattle.std.specs.Prelude.{◌≡◌, ◌+◌, ◌<◌, ◌^◌, ◌≤◌, IfOk, OnOk, OnErr, Ok, Some, length};
-ghost use Rattle.step_count.specs.Reads.{AllMay};
-ghost use Rattle.question_shell.specs.Desk.{budget_of, held_of};
-ghost use Rattle.question_shell.specs.Drawing.{IsOfDesk, desk_left, items_left, reads_left};
+ghost use Rattle.step_count.specs.Reads.{ReadsWithin};
+ghost use Rattle.question_shell.specs.Desk.{MayDraw, NeedsNoMore, budget_of, held_of};
+ghost use Rattle.question_shell.specs.Drawing.{IsOfDesk, desk_left, items_left, needs_left, reads_left};
 ghost use Rattle.question_shell.specs.Grammar.{AreAsked};
 ghost use Rattle.question_shell.specs.Items.{items_of};
+ghost use Rattle.question_shell.specs.Needs.{question_needs};
 ghost use Rattle.question_shell.specs.Reply.{asked_cost, desk_of};
 
 use crate::answer::Answer;
@@ -24,14 +25,16 @@ pub fn count_found<A: Meets, L: Reads>(
     steps: &mut Steps<L>,
 ) -> Result<u64, Memory>
     requires asked { AreAsked question }
-    requires may { AllMay L.may }
+    requires may { ReadsWithin (question_needs (A.needs answerer) question) L.may }
+    requires held { MayDraw A.Walk.needs desk.old.walks L.may }
     ensures ok { IfOk result (λ count. count
-        ≡ length (items_of (A.chart answerer) (A.facts answerer) (held_of desk.old) question)) }
+        ≡ length (items_of (A.chart answerer) (A.facts answerer) (held_of desk.old.view) question)) }
     ensures desk { OnOk result (
-        held_of desk.new ≡ desk_of (A.chart answerer) (held_of desk.old) question) }
+        held_of desk.new.view ≡ desk_of (A.chart answerer) (held_of desk.old.view) question) }
     ensures untouched { OnErr result (desk.new ≡ desk.old) }
-    ensures cost { steps.new + budget_of desk.new ≤ steps.old + budget_of desk.old
-        + asked_cost (A.cost answerer) (held_of desk.old) (Ok (Some question)) }
+    ensures cost { steps.new + budget_of desk.new.view ≤ steps.old + budget_of desk.old.view
+        + asked_cost (A.cost answerer) (held_of desk.old.view) (Ok (Some question)) }
+    ensures held { MayDraw A.Walk.needs desk.new.walks L.may }
 {
     let mut answer = ask(alloc, answerer, &question, desk, steps)?;
     Ok(count_left(&mut answer, desk, steps))
@@ -44,12 +47,13 @@ fn count_left<W: Lazy<Item = Stop> + Drop, L: Reads>(
     steps: &mut Steps<L>,
 ) -> u64
     requires slot { IsOfDesk answer.old }
-    requires few { length (items_left W.left W.budget answer.old desk.old) < 2 ^ 64 }
-    requires may { AllMay L.may }
-    ensures count { result ≡ length (items_left W.left W.budget answer.old desk.old) }
-    ensures desk { held_of desk.new ≡ desk_left W.left W.budget answer.old desk.old }
-    ensures reads { steps.new + budget_of desk.new
-        ≤ steps.old + reads_left W.left W.budget answer.old desk.old }
+    requires few { length (items_left W.left W.budget answer.old desk.old.view) < 2 ^ 64 }
+    requires may { ReadsWithin (needs_left W.needs answer.old desk.old.walks) L.may }
+    ensures count { result ≡ length (items_left W.left W.budget answer.old desk.old.view) }
+    ensures desk { held_of desk.new.view ≡ desk_left W.left W.budget answer.old desk.old.view }
+    ensures reads { steps.new + budget_of desk.new.view
+        ≤ steps.old + reads_left W.left W.budget answer.old desk.old.view }
+    ensures walks { NeedsNoMore W.needs desk.old.walks desk.new.walks }
 {
     let mut count = 0u64;
     'items: while let Some(_) = answer.draw(desk, steps) {

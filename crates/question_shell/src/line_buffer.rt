@@ -77,6 +77,7 @@ impl LineBuffer {
         ensures value { (line : List ℕ) → self.now ≡ kept_of line →
             line_told result question.new ≡ question_of line }
         ensures asked { result ≡ Ok true → AreAsked question.new }
+        ensures kept { kept_of self.now ≡ self.now }
     {
         read_line(self.kept.as_slice(), question)
     }

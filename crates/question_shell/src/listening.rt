@@ -1,10 +1,12 @@
 ghost use Rattle.std.specs.Prelude.{◌≡◌, ◌≢◌, ℕ, ◌≤◌, [], List, Err, OnOk, ◌⊎◌};
-ghost use Rattle.step_count.specs.Reads.{AllMay};
+ghost use Rattle.step_count.specs.Reads.{AllMay, ReadsWithin};
 ghost use Rattle.host_ports.specs.Faults.{Rose};
 ghost use Rattle.host_ports.specs.Counting.{SinkCounts};
+ghost use Rattle.question_shell.specs.Desk.{MayDraw};
 ghost use Rattle.question_shell.specs.Grammar.{question_of};
 ghost use Rattle.question_shell.specs.LineKept.{kept_of};
 ghost use Rattle.question_shell.specs.Lines.{input_lines};
+ghost use Rattle.question_shell.specs.Needs.{asked_needs};
 ghost use Rattle.question_shell.specs.Says.{voice};
 ghost use Rattle.question_shell.specs.Session.{meaning_by};
 ghost use Rattle.question_shell.specs.Turns.{Heard, AnswerTold, AnswersLines, Moment, AnswersBytes, Flushes};
@@ -58,8 +60,8 @@ pub(crate) fn take_piece<A: Meets, K: Sink, L: Reads>(
 ) -> Result<(), TurnFault>
     requires may { AllMay L.may }
     ensures told { AnswersBytes (meaning_by A.Answerer answerer)
-        (moment (K.said sink.old) talk.old.text desk.old steps.old) talk.old.line piece.now
-        (moment (K.said sink.new) [] desk.new steps.new) talk.new.line result }
+        (moment (K.said sink.old) talk.old.text desk.old.view steps.old) talk.old.line piece.now
+        (moment (K.said sink.new) [] desk.new.view steps.new) talk.new.line result }
     ensures said { OnOk result (talk.new.text ≡ []) }
     ensures faults { SinkCounts K.Sink sink.old sink.new (result ≡ Err fault.Say) }
 {
@@ -79,8 +81,8 @@ fn take_bytes<A: Meets, K: Sink, L: Reads>(
 ) -> Result<(), TurnFault>
     requires may { AllMay L.may }
     ensures told { AnswersBytes (meaning_by A.Answerer answerer)
-        (moment (K.said sink.old) talk.old.text desk.old steps.old) talk.old.line bytes.now
-        (moment (K.said sink.new) talk.new.text desk.new steps.new) talk.new.line result }
+        (moment (K.said sink.old) talk.old.text desk.old.view steps.old) talk.old.line bytes.now
+        (moment (K.said sink.new) talk.new.text desk.new.view steps.new) talk.new.line result }
     ensures faults { SinkCounts K.Sink sink.old sink.new (result ≡ Err fault.Say) }
 {
     let mut left = bytes;
@@ -103,13 +105,16 @@ fn take_line<A: Meets, K: Sink, L: Reads>(
     sink: &mut K,
     steps: &mut Steps<L>,
 ) -> Result<(), TurnFault>
-    requires may { AllMay L.may }
+    requires may { (line : List ℕ) → talk.old.line ≡ kept_of line →
+        ReadsWithin (asked_needs (A.needs answerer) (question_of line)) L.may }
+    requires held { MayDraw A.Walk.needs desk.old.walks L.may }
     ensures told { (line : List ℕ) → talk.old.line ≡ kept_of line →
         AnswerTold (meaning_by A.Answerer answerer)
-        (moment (K.said sink.old) talk.old.text desk.old steps.old)
-        (moment (K.said sink.new) talk.new.text desk.new steps.new) (question_of line) result }
+        (moment (K.said sink.old) talk.old.text desk.old.view steps.old)
+        (moment (K.said sink.new) talk.new.text desk.new.view steps.new) (question_of line) result }
     ensures line { talk.new.line ≡ kept_of [] }
     ensures faults { SinkCounts K.Sink sink.old sink.new (result ≡ Err fault.Say) }
+    ensures held { MayDraw A.Walk.needs desk.new.walks L.may }
 {
     let read = talk.line.read(&mut talk.question);
     talk.line.clear();
@@ -133,8 +138,8 @@ pub(crate) fn take_end<A: Meets, K: Sink, L: Reads>(
     requires may { AllMay L.may }
     ensures told { (start : Moment) (came : List ℕ) →
         let meaning = meaning_by A.Answerer answerer in
-        let now = moment (K.said sink.new) [] desk.new steps.new in
-        Heard meaning start (moment (K.said sink.old) talk.old.text desk.old steps.old)
+        let now = moment (K.said sink.new) [] desk.new.view steps.new in
+        Heard meaning start (moment (K.said sink.old) talk.old.text desk.old.view steps.old)
         came talk.old.line →
         AnswersLines meaning start now (input_lines came) result }
     ensures faults { SinkCounts K.Sink sink.old sink.new (result ≡ Err fault.Say) }

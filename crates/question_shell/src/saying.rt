@@ -1,8 +1,9 @@
 ghost use Rattle.std.specs.Prelude.{true, is_err, ◌≡◌, ◌+◌, ◌<◌, ◌^◌, ◌≤◌, Err, None, OnOk, length, map};
-ghost use Rattle.step_count.specs.Reads.{AllMay};
+ghost use Rattle.step_count.specs.Reads.{ReadsWithin};
 ghost use Rattle.host_ports.specs.Counting.{SinkCounts};
-ghost use Rattle.question_shell.specs.Desk.{budget_of, held_of};
-ghost use Rattle.question_shell.specs.Drawing.{IsOfDesk, desk_left, items_left, reads_left, refusal_left};
+ghost use Rattle.question_shell.specs.Desk.{NeedsNoMore, budget_of, held_of};
+ghost use Rattle.question_shell.specs.Drawing.{IsOfDesk, desk_left, items_left, needs_left, reads_left};
+ghost use Rattle.question_shell.specs.Drawing.{refusal_left};
 ghost use Rattle.question_shell.specs.Reply.{listed};
 ghost use Rattle.question_shell.specs.Says.{Puts, voice};
 ghost use Rattle.question_shell.specs.Turns.{LineTold};
@@ -42,14 +43,15 @@ pub(crate) fn say_answer<W: Lazy<Item = Stop> + Drop, K: Sink, L: Reads>(
     steps: &mut Steps<L>,
 ) -> Result<(), Cut>
     requires slot { IsOfDesk answer.old }
-    requires few { length (items_left W.left W.budget answer.old desk.old) < 2 ^ 64 }
-    requires may { AllMay L.may }
+    requires few { length (items_left W.left W.budget answer.old desk.old.view) < 2 ^ 64 }
+    requires may { ReadsWithin (needs_left W.needs answer.old desk.old.walks) L.may }
     ensures told { Puts (voice (K.said sink.old) text.old) (voice (K.said sink.new) text.new)
-        (listed (items_left W.left W.budget answer.old desk.old) (refusal_left answer.old)) result }
+        (listed (items_left W.left W.budget answer.old desk.old.view) (refusal_left answer.old)) result }
     ensures desk { OnOk result (
-        held_of desk.new ≡ desk_left W.left W.budget answer.old desk.old) }
-    ensures reads { steps.new + budget_of desk.new
-        ≤ steps.old + reads_left W.left W.budget answer.old desk.old }
+        held_of desk.new.view ≡ desk_left W.left W.budget answer.old desk.old.view) }
+    ensures reads { steps.new + budget_of desk.new.view
+        ≤ steps.old + reads_left W.left W.budget answer.old desk.old.view }
+    ensures walks { NeedsNoMore W.needs desk.old.walks desk.new.walks }
     ensures faults { SinkCounts K.Sink sink.old sink.new (is_err result ≡ true) }
 {
     match answer {
@@ -66,7 +68,7 @@ fn say_stops<W: Lazy<Item = Stop> + Drop, K: Sink, L: Reads>(
     steps: &mut Steps<L>,
 ) -> Result<(), Cut>
     requires few { length (W.left walk.old) < 2 ^ 64 }
-    requires may { AllMay L.may }
+    requires may { ReadsWithin (W.needs walk.old) L.may }
     ensures told { Puts (voice (K.said sink.old) text.old) (voice (K.said sink.new) text.new)
         (listed (map item.Stop (W.left walk.old)) None) result }
     ensures reads { steps.new + W.budget walk.new ≤ steps.old + W.budget walk.old }
@@ -89,14 +91,15 @@ fn say_items<W: Lazy<Item = Stop> + Drop, K: Sink, L: Reads>(
     steps: &mut Steps<L>,
 ) -> Result<(), Cut>
     requires slot { IsOfDesk answer.old }
-    requires few { length (items_left W.left W.budget answer.old desk.old) < 2 ^ 64 }
-    requires may { AllMay L.may }
+    requires few { length (items_left W.left W.budget answer.old desk.old.view) < 2 ^ 64 }
+    requires may { ReadsWithin (needs_left W.needs answer.old desk.old.walks) L.may }
     ensures told { Puts (voice (K.said sink.old) text.old) (voice (K.said sink.new) text.new)
-        (listed (items_left W.left W.budget answer.old desk.old) (refusal_left answer.old)) result }
+        (listed (items_left W.left W.budget answer.old desk.old.view) (refusal_left answer.old)) result }
     ensures desk { OnOk result (
-        held_of desk.new ≡ desk_left W.left W.budget answer.old desk.old) }
-    ensures reads { steps.new + budget_of desk.new
-        ≤ steps.old + reads_left W.left W.budget answer.old desk.old }
+        held_of desk.new.view ≡ desk_left W.left W.budget answer.old desk.old.view) }
+    ensures reads { steps.new + budget_of desk.new.view
+        ≤ steps.old + reads_left W.left W.budget answer.old desk.old.view }
+    ensures walks { NeedsNoMore W.needs desk.old.walks desk.new.walks }
     ensures faults { SinkCounts K.Sink sink.old sink.new (is_err result ≡ true) }
 {
     let mut count = 0u64;

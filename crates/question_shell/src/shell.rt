@@ -38,8 +38,8 @@ pub fn run<A: Meets, S: Source, K: Sink, L: Reads>(
 ) -> Result<(), ShellFault>
     requires may { AllMay L.may }
     ensures answers { AnswersRun (meaning_by A.Answerer answerer) result
-        (run_by S.Source K.Sink source.old sink.old desk.old steps.old)
-        (run_by S.Source K.Sink source.new sink.new desk.new steps.new) }
+        (run_by S.Source K.Sink source.old sink.old desk.old.view steps.old)
+        (run_by S.Source K.Sink source.new sink.new desk.new.view steps.new) }
     ensures counts { CountsRun S.Source K.Sink result source.old source.new sink.old sink.new }
 {
     let mut talk = Talk::new();

@@ -7,11 +7,11 @@ returns-in_err-say_answer-clause-told g c =
     let gave = err_from_is_err_and c.from_residual-in_err-say_answer.result c.from_residual-in_err-say_answer.ensures.1 in
     rw (gave.1, gave.2)
     (front-answer c.in_ok-answer.ensures.ok (g.K.Sink.said c.args.sink.now) c.args.text.now (g.K.Sink.said c.say_answer.new.sink)
-    c.say_answer.new.text c.say_answer.new.desk c.say_answer.new.steps c.in_err-say_answer.ensures.told
+    c.say_answer.new.text c.say_answer.new.desk.view c.say_answer.new.steps c.in_err-say_answer.ensures.told
     c.in_err-say_answer.ensures.reads)
 
 pub returns-clause-told : goal.returns-clause-told
 returns-clause-told g c =
     takes-answer c.in_ok-answer.ensures.ok (g.K.Sink.said c.args.sink.now) c.args.text.now (g.K.Sink.said c.say_answer.new.sink)
-    c.say_answer.new.text c.say_answer.new.desk c.say_answer.new.steps c.in_ok-say_answer.ensures.told
+    c.say_answer.new.text c.say_answer.new.desk.view c.say_answer.new.steps c.in_ok-say_answer.ensures.told
     c.in_ok-say_answer.ensures.desk c.in_ok-say_answer.ensures.reads

@@ -32,8 +32,8 @@ same (Err fault) desk = refl
 
 pub returns-in_default : goal.returns-in_default
 returns-in_default g c = record {
-  ok = c.ask_chart.ensures.ok c.args.desk.now;
-  takes = c.ask_chart.ensures.takes c.args.desk.now;
-  desk = same c.ask_chart.result c.args.desk.now;
-  reads = c.ask_chart.ensures.reads c.args.desk.now;
+  ok = c.ask_chart.ensures.ok c.args.desk.now.view;
+  takes = c.ask_chart.ensures.takes c.args.desk.now.view;
+  desk = same c.ask_chart.result c.args.desk.now.view;
+  reads = c.ask_chart.ensures.reads c.args.desk.now.view;
 }

@@ -9,8 +9,8 @@ pub returns-clause-ok : goal.returns-clause-ok
 returns-clause-ok g c steps =
     let near = c.requires in
     let walk = c.in_ok-walk.walk in
-    let inside : c.args.slot < length c.args.desk.now = omega (arith, near.0, c.is_held.ensures.places) in
-    answer-hold g.A.Walk.Lazy.left g.A.Walk.Lazy.budget (meaning_by g.A.Answerer c.args.answerer) c.args.desk.now
+    let inside : c.args.slot < length c.args.desk.now.view = omega (arith, near.0, c.is_held.ensures.places) in
+    answer-hold g.A.Walk.Lazy.left g.A.Walk.Lazy.budget (meaning_by g.A.Answerer c.args.answerer) c.args.desk.now.view
     c.args.slot steps c.args.object c.args.from c.args.to (g.A.Walk.Lazy.left walk, g.A.Walk.Lazy.budget walk)
     c.hold.new.self inside (rw c.is_held.ensures.value at c.if-is_held.false) c.hold.ensures
     (simp (asked_kept c.args.from near.1, asked_kept c.args.to near.2) at c.in_ok-walk.ensures.left)

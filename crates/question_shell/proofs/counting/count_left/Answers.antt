@@ -6,7 +6,7 @@ use Rattle.question_shell.proofs.counting.count_left.Goals as goal
 pub items-init : goal.items-init
 items-init g c = record {
   done = [];
-  gives = gives-nothing c.args.answer.now c.args.desk.now c.args.steps.now c.requires.slot;
+  gives = gives-nothing c.args.answer.now c.args.desk.now.view c.args.steps.now c.requires.slot;
   count = refl;
 }
 

@@ -6,9 +6,9 @@ use Rattle.question_shell.proofs.counting.count_left.Given as goal
 abbrev pub invariant-items : goal.invariant-items
 invariant-items g l = record {
   done : List Item;
-  gives : GivesItems g.W.Lazy.left g.W.Lazy.budget l.fn.answer l.answer l.fn.desk l.desk l.fn.steps l.steps done;
+  gives : GivesItems g.W.Lazy.left g.W.Lazy.budget l.fn.answer l.answer l.fn.desk.view l.desk.view l.fn.steps l.steps done;
   count : l.count ≡ length done;
 }
 
 abbrev pub decreases-items : goal.decreases-items
-decreases-items g l = length (items_left g.W.Lazy.left g.W.Lazy.budget l.answer l.desk)
+decreases-items g l = length (items_left g.W.Lazy.left g.W.Lazy.budget l.answer l.desk.view)

@@ -13,7 +13,7 @@ loop-line-init g c = record {
   faults = refl;
   heard = λ start came heard.
       let meaning = meaning_by g.A.Answerer c.args.answerer in
-      let here = moment (g.K.Sink.said c.args.sink.now) c.args.talk.now.text c.args.desk.now c.args.steps.now in
+      let here = moment (g.K.Sink.said c.args.sink.now) c.args.talk.now.text c.args.desk.now.view c.args.steps.now in
       let P : List ℕ → Type 0 = λ input. Heard meaning start here input c.args.talk.now.line in
       subst P (sym (append-nil came)) heard;
 }
@@ -23,9 +23,9 @@ returns-in_err-take_line-clause-told g c start came heard =
     let exit = err_from_is_err_and c.from_residual.result c.from_residual.ensures.1 in
     let meaning = meaning_by g.A.Answerer c.args.answerer in
     let before = c.loop-line in
-    let here = moment (g.K.Sink.said before.sink) before.talk.text before.desk before.steps in
+    let here = moment (g.K.Sink.said before.sink) before.talk.text before.desk.view before.steps in
     let new = c.take_line.new in
-    let now = moment (g.K.Sink.said new.sink) new.talk.text new.desk new.steps in
+    let now = moment (g.K.Sink.said new.sink) new.talk.text new.desk.view new.steps in
     let refused = c.in_err-take_line.field-0.0 in
     let front = before.invariant.front in
     let line = c.in-Some.line.now in
@@ -53,9 +53,9 @@ loop-line-preserved g c =
       faults = c.in_ok-take_line.ensures.faults.untouched (λ same. absurd (cc)) ∙ before.invariant.faults;
       heard = λ start came heard.
           let meaning = meaning_by g.A.Answerer c.args.answerer in
-          let here = moment (g.K.Sink.said before.sink) before.talk.text before.desk before.steps in
+          let here = moment (g.K.Sink.said before.sink) before.talk.text before.desk.view before.steps in
           let new = c.take_line.new in
-          let now = moment (g.K.Sink.said new.sink) new.talk.text new.desk new.steps in
+          let now = moment (g.K.Sink.said new.sink) new.talk.text new.desk.view new.steps in
           let last = unended_line (came ++ front) in
           let hears = before.invariant.heard start came heard in
           told-line meaning start here now came front line before.talk.line new.talk.line (Ok tt)
@@ -67,7 +67,7 @@ pub returns-clause-told : goal.returns-clause-told
 returns-clause-told g c start came heard =
     let meaning = meaning_by g.A.Answerer c.args.answerer in
     let before = c.loop-line in
-    let here = moment (g.K.Sink.said before.sink) before.talk.text before.desk before.steps in
+    let here = moment (g.K.Sink.said before.sink) before.talk.text before.desk.view before.steps in
     let front = before.invariant.front in
     let left = before.left.now in
     let new = c.extend-2.new.self in

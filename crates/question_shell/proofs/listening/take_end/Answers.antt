@@ -10,8 +10,8 @@ pub returns-clause-told : goal.returns-clause-told
 returns-clause-told g c start came heard =
     let meaning = meaning_by g.A.Answerer c.args.answerer in
     let said = c.take_line-answered in
-    let here = moment (g.K.Sink.said c.args.sink.now) c.args.talk.now.text c.args.desk.now c.args.steps.now in
-    let between = moment (g.K.Sink.said said.new.sink) said.new.talk.text said.new.desk said.new.steps in
+    let here = moment (g.K.Sink.said c.args.sink.now) c.args.talk.now.text c.args.desk.now.view c.args.steps.now in
+    let between = moment (g.K.Sink.said said.new.sink) said.new.talk.text said.new.desk.view said.new.steps in
     let told = said.ensures.told (unended_line came) heard.kept in
     rest-lines meaning start between (g.K.Sink.said c.say_rest.new.sink) (input_lines came) said.result c.say_rest.result
     (told-end meaning start here between came c.args.talk.now.line said.result told heard) c.say_rest.ensures.told

@@ -11,6 +11,6 @@ returns-in-Ok-false-clause-told g c line is_kept =
     sym (rw c.in-Ok-false.field-0-test at (c.in-Ok-false.ensures.value line is_kept)) in
     rw asked (record {
       said = says-nothing (voice (g.K.Sink.said c.args.sink.now) c.args.talk.now.text);
-      desk = refl {a = held_of c.args.desk.now};
+      desk = refl {a = held_of c.args.desk.now.view};
       reads = omega arith;
     })

@@ -9,7 +9,7 @@ pub returns-clause-told : goal.returns-clause-told
 returns-clause-told g c start came heard =
     let meaning = meaning_by g.A.Answerer c.args.answerer in
     let took = c.take_bytes-answered in
-    let between = moment (g.K.Sink.said took.new.sink) took.new.talk.text took.new.desk took.new.steps in
+    let between = moment (g.K.Sink.said took.new.sink) took.new.talk.text took.new.desk.view took.new.steps in
     rest-bytes meaning start between (g.K.Sink.said c.say_rest.new.sink) (came ++ c.args.piece.now) took.new.talk.line
     took.result c.say_rest.result (took.ensures.told start came heard) c.say_rest.ensures.told
 

@@ -11,7 +11,7 @@ use Rattle.question_shell.proofs.saying.say_items.Goals as goal
 pub loop-item-init : goal.loop-item-init
 loop-item-init g c = record {
   done = [];
-  gives = gives-nothing c.args.answer.now c.args.desk.now c.args.steps.now c.requires.slot;
+  gives = gives-nothing c.args.answer.now c.args.desk.now.view c.args.steps.now c.requires.slot;
   says = says-nothing (voice (g.K.Sink.said c.args.sink.now) c.args.text.now);
   count = refl;
   faults = refl;
@@ -39,8 +39,8 @@ returns-in_err-put_item-clause-told g c =
     (cuts-next (voice (g.K.Sink.said c.args.sink.now) c.args.text.now)
     (voice (g.K.Sink.said c.loop-item.sink) c.loop-item.text) read.done c.in-Some.item (line_of c.in-Some.item)
     refl read.says (g.K.Sink.said c.put_item.new.sink)
-    (items_left g.W.Lazy.left g.W.Lazy.budget c.args.answer.now c.args.desk.now)
-    (items_left g.W.Lazy.left g.W.Lazy.budget c.draw.new.self c.draw.new.desk) (refusal_left c.args.answer.now)
+    (items_left g.W.Lazy.left g.W.Lazy.budget c.args.answer.now c.args.desk.now.view)
+    (items_left g.W.Lazy.left g.W.Lazy.budget c.draw.new.self c.draw.new.desk.view) (refusal_left c.args.answer.now)
     c.in_err-put_item.ensures.told all.items)
 
 pub returns-clause-told : goal.returns-clause-told
@@ -50,8 +50,8 @@ returns-clause-told g c =
     let refusal = last.gives.refusal ∙ read.gives.refusal in
     told-last (voice (g.K.Sink.said c.args.sink.now) c.args.text.now)
     (voice (g.K.Sink.said c.loop-item.sink) c.loop-item.text) (voice (g.K.Sink.said c.put.new.sink) c.put.new.self)
-    read.done (items_left g.W.Lazy.left g.W.Lazy.budget c.args.answer.now c.args.desk.now)
-    (items_left g.W.Lazy.left g.W.Lazy.budget c.loop-item.answer c.loop-item.desk)
+    read.done (items_left g.W.Lazy.left g.W.Lazy.budget c.args.answer.now c.args.desk.now.view)
+    (items_left g.W.Lazy.left g.W.Lazy.budget c.loop-item.answer c.loop-item.desk.view)
     (refusal_left c.args.answer.now) c.last_line.result c.put.result read.gives.items
     (last.gives.items ∙ last.none.items)
     (c.last_line.ensures ∙ (ap (λ refusal. last_line refusal c.loop-item.count) refusal

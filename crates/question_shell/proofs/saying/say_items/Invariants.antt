@@ -9,11 +9,11 @@ use Rattle.question_shell.proofs.saying.say_items.Given as goal
 abbrev pub invariant-loop-item : goal.invariant-loop-item
 invariant-loop-item g l = record {
   done : List Item;
-  gives : GivesItems g.W.Lazy.left g.W.Lazy.budget l.fn.answer l.answer l.fn.desk l.desk l.fn.steps l.steps done;
+  gives : GivesItems g.W.Lazy.left g.W.Lazy.budget l.fn.answer l.answer l.fn.desk.view l.desk.view l.fn.steps l.steps done;
   says : Says (voice (g.K.Sink.said l.fn.sink) l.fn.text) (voice (g.K.Sink.said l.sink) l.text) (flat_map line_of done);
   count : l.count ≡ length done;
   faults : g.K.Sink.faults l.sink ≡ g.K.Sink.faults l.fn.sink;
 }
 
 abbrev pub decreases-loop-item : goal.decreases-loop-item
-decreases-loop-item g l = length (items_left g.W.Lazy.left g.W.Lazy.budget l.answer l.desk)
+decreases-loop-item g l = length (items_left g.W.Lazy.left g.W.Lazy.budget l.answer l.desk.view)

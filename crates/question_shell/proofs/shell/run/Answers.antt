@@ -22,11 +22,11 @@ module _ (g : Over) (c : After-listen g) where
 
   -- at the call
   abbrev before : Run
-  before = run_by g.S.Source g.K.Sink c.args.source.now c.args.sink.now c.args.desk.now c.args.steps.now
+  before = run_by g.S.Source g.K.Sink c.args.source.now c.args.sink.now c.args.desk.now.view c.args.steps.now
 
   -- before more is listened to
   abbrev here : Run
-  here = run_by g.S.Source g.K.Sink c.pieces.source c.pieces.sink c.pieces.desk c.pieces.steps
+  here = run_by g.S.Source g.K.Sink c.pieces.source c.pieces.sink c.pieces.desk.view c.pieces.steps
 
   stands : Stands meaning before here c.pieces.talk.line
   stands =
@@ -43,8 +43,8 @@ module _ (g : Over) (c : After-listen g) where
 ends : (g : Over) (c : After-take_end g) →
     Ends
     (run_by g.S.Source g.K.Sink c.pieces.source c.pieces.sink
-    c.pieces.desk c.pieces.steps)
-    (run_by g.S.Source g.K.Sink c.listen.new.self c.take_end.new.sink c.take_end.new.desk c.take_end.new.steps)
+    c.pieces.desk.view c.pieces.steps)
+    (run_by g.S.Source g.K.Sink c.listen.new.self c.take_end.new.sink c.take_end.new.desk.view c.take_end.new.steps)
 ends g c =
     let piece = take c.in_ok-count.count c.listen.new.buf in
     let nothing : piece ≡ [] = rw c.if-count-eq0.true refl in
@@ -65,8 +65,8 @@ ends g c =
 brings : (g : Over) (c : After-take_piece g) →
     Brings c.pieces.invariant.bytes
     (run_by g.S.Source g.K.Sink c.pieces.source c.pieces.sink
-    c.pieces.desk c.pieces.steps)
-    (run_by g.S.Source g.K.Sink c.listen.new.self c.take_piece.new.sink c.take_piece.new.desk c.take_piece.new.steps)
+    c.pieces.desk.view c.pieces.steps)
+    (run_by g.S.Source g.K.Sink c.listen.new.self c.take_piece.new.sink c.take_piece.new.desk.view c.take_piece.new.steps)
     (take c.in_ok-count.count c.listen.new.buf)
     (take c.min-counted.result (c.listen.new.buf ++ drop c.min-room.result c.pieces.buffer))
 brings g c =
@@ -87,7 +87,7 @@ brings g c =
 pub pieces-init : goal.pieces-init
 pieces-init g c =
     let meaning = meaning_by g.A.Answerer c.args.answerer in
-    let before = run_by g.S.Source g.K.Sink c.args.source.now c.args.sink.now c.args.desk.now c.args.steps.now in
+    let before = run_by g.S.Source g.K.Sink c.args.source.now c.args.sink.now c.args.desk.now.view c.args.steps.now in
     record {
       bytes = [];
       came = came-nothing before;

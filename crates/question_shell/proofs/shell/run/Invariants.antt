@@ -9,13 +9,13 @@ abbrev pub invariant-pieces : goal.invariant-pieces
 invariant-pieces g l = record {
   bytes : List ℕ;
   came : Came
-      (run_by g.S.Source g.K.Sink l.fn.source l.fn.sink l.fn.desk l.fn.steps)
-      (run_by g.S.Source g.K.Sink l.source l.sink l.desk l.steps) bytes;
+      (run_by g.S.Source g.K.Sink l.fn.source l.fn.sink l.fn.desk.view l.fn.steps)
+      (run_by g.S.Source g.K.Sink l.source l.sink l.desk.view l.steps) bytes;
   count : l.taken ≡ length bytes;
   within : l.taken ≤ limit_of Questions + 1;
   heard : Heard
       (meaning_by g.A.Answerer l.answerer)
-      (moment (g.K.Sink.said l.fn.sink) [] l.fn.desk l.fn.steps) (moment (g.K.Sink.said l.sink) [] l.desk l.steps)
+      (moment (g.K.Sink.said l.fn.sink) [] l.fn.desk.view l.fn.steps) (moment (g.K.Sink.said l.sink) [] l.desk.view l.steps)
       (take (limit_of Questions) bytes) l.talk.line;
   text : l.talk.text ≡ [];
   listen_faults : g.S.Source.faults l.source ≡ g.S.Source.faults l.fn.source;
