@@ -1,18 +1,20 @@
 -- An answer whose items are drawn, one after another.
 use Rattle.std.proofs.Common.{◌≡◌, ℕ, ◌+◌, ◌<◌, ◌≤◌, false, List, [], ◌∷◌, ◌++◌, length, map, refl, sym, ap, ◌∙◌}
 use Rattle.std.proofs.Common.{arith, append_assoc, append-nil, set, take, drop, subst, Result, Ok, Option, Some, None}
-use Rattle.std.proofs.Common.{ℤ}
+use Rattle.std.proofs.Common.{Bool, ℤ}
 use Rattle.std.specs.Prelude.{if◌then◌else◌, is_some, option_map}
 use Rattle.std.specs.List.{flat_map}
 use Rattle.std.specs.Option.{option_map_or}
 use Rattle.std.proofs.lemmas.Grind.{flat_map-append}
 use Rattle.std.proofs.lemmas.List.{map-append, set-get_or, set-set, take-append-drop}
+use Rattle.step_count.specs.Reads.{Read}
 use Rattle.track_types.specs.ByFilter.{path_of}
 use Rattle.track_types.specs.declared.question.Question.{Question}
 use Rattle.track_types.specs.declared.question.Question.TheVariants as question
 use Rattle.track_types.specs.declared.stop.Stop.{Stop}
 use Rattle.question_shell.specs.Desk.{DeskView, Draws, budget_of, held_of, is_held_in, slot_walk, slot_stops}
-use Rattle.question_shell.specs.Drawing.{GivesItems, IsAnswer, IsOfDesk, desk_left, items_left, reads_left, refusal_left}
+use Rattle.question_shell.specs.Drawing.{AnswerNeeds, GivesItems, IsAnswer, IsOfDesk, desk_left, items_left, reads_left}
+use Rattle.question_shell.specs.Drawing.{refusal_left}
 use Rattle.question_shell.specs.Items.{items_of, line_of, stops_at}
 use Rattle.question_shell.specs.Reply.{hold_cost, last_line, listed, refusal_of}
 use Rattle.question_shell.specs.Says.{Cuts, Puts, Says, Voice, voice}
@@ -230,3 +232,17 @@ module _ {W : Type 0} (left : W → List Stop) (budget : W → ℕ) (meaning : M
           held = ap held_of is ∙ held_of-set desk slot None;
           reads = omega (arith, ap budget_of same);
         }
+
+module _ {W : Type 0} {needs : W → Read → Bool} where
+  -- no more is needed where nothing was drawn yet
+  pub needs-nothing : (now : Answer W) (walks : List (Option W)) → AnswerNeeds needs now now walks walks
+  needs-nothing now walks = record { own = λ read is. is; held = λ slot read is. is }
+
+  -- or more was drawn
+  pub needs-more : {first between now : Answer W} {walks here after : List (Option W)} →
+      AnswerNeeds needs first between walks here → AnswerNeeds needs between now here after →
+      AnswerNeeds needs first now walks after
+  needs-more one two = record {
+    own = λ read is. one.own read (two.own read is);
+    held = λ slot read is. one.held slot read (two.held slot read is);
+  }

@@ -4,7 +4,8 @@ use Rattle.question_shell.specs.Drawing.{items_left, refusal_left}
 use Rattle.question_shell.specs.Items.{line_of}
 use Rattle.question_shell.specs.Reply.{last_line}
 use Rattle.question_shell.specs.Says.{voice}
-use Rattle.question_shell.proofs.DrawingLemmas.{cuts-next, gives-more, gives-nothing, says-next, told-last}
+use Rattle.question_shell.proofs.DrawingLemmas.{cuts-next, gives-more, gives-nothing, needs-more, needs-nothing, says-next}
+use Rattle.question_shell.proofs.DrawingLemmas.{told-last}
 use Rattle.question_shell.proofs.SaysLemmas.{says-nothing}
 use Rattle.question_shell.proofs.saying.say_items.Goals as goal
 
@@ -12,6 +13,7 @@ pub loop-item-init : goal.loop-item-init
 loop-item-init g c = record {
   done = [];
   gives = gives-nothing c.args.answer.now c.args.desk.now.view c.args.steps.now c.requires.slot;
+  needs = needs-nothing c.args.answer.now c.args.desk.now.walks;
   says = says-nothing (voice (g.K.Sink.said c.args.sink.now) c.args.text.now);
   count = refl;
   faults = refl;
@@ -23,6 +25,7 @@ loop-item-preserved g c =
     record {
       done = read.done ++ c.in-Some.item ∷ [];
       gives = gives-more read.gives c.in-Some.ensures.gives;
+      needs = needs-more read.needs c.in-Some.ensures.needs;
       says = says-next (voice (g.K.Sink.said c.args.sink.now) c.args.text.now)
           (voice (g.K.Sink.said c.loop-item.sink) c.loop-item.text) read.done c.in-Some.item (line_of c.in-Some.item)
           refl read.says (voice (g.K.Sink.said c.put_item.new.sink) c.put_item.new.self) c.in_ok-put_item.ensures.told;

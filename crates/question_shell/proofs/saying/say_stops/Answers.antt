@@ -14,6 +14,7 @@ pub loop-stop-init : goal.loop-stop-init
 loop-stop-init g c = record {
   done = [];
   gives = gives-nothing (answer.Walk c.args.walk.now) [] c.args.steps.now tt;
+  needs = λ read is. is;
   says = says-nothing (voice (g.K.Sink.said c.args.sink.now) c.args.text.now);
   count = refl;
   faults = refl;
@@ -26,6 +27,7 @@ loop-stop-preserved g c =
     record {
       done = read.done ++ found ∷ [];
       gives = gives-more read.gives (gives-stop c.in-Some.stop c.in-Some.ensures.found c.in-Some.ensures.cost);
+      needs = λ name is. read.needs name (c.in-Some.ensures.needs name is);
       says = says-next (voice (g.K.Sink.said c.args.sink.now) c.args.text.now)
           (voice (g.K.Sink.said c.loop-stop.sink) c.loop-stop.text) read.done found (line_of found)
           refl read.says (voice (g.K.Sink.said c.put_item.new.sink) c.put_item.new.self) c.in_ok-put_item.ensures.told;

@@ -1,5 +1,6 @@
 use Rattle.std.proofs.Common.{◌≡◌, List, [], length}
 use Rattle.std.specs.List.{flat_map}
+use Rattle.step_count.specs.Reads.{ReadsWithin}
 use Rattle.question_shell.specs.Drawing.{GivesItems}
 use Rattle.question_shell.specs.Items.{line_of}
 use Rattle.question_shell.specs.Says.{Says, voice}
@@ -12,6 +13,7 @@ invariant-loop-stop g l = record {
   done : List Item;
   gives : GivesItems g.W.Lazy.left g.W.Lazy.budget (answer.Walk l.fn.walk) (answer.Walk l.walk) [] [] l.fn.steps l.steps
       done;
+  needs : ReadsWithin (g.W.Lazy.needs l.walk) (g.W.Lazy.needs l.fn.walk);
   says : Says (voice (g.K.Sink.said l.fn.sink) l.fn.text) (voice (g.K.Sink.said l.sink) l.text) (flat_map line_of done);
   count : l.count ≡ length done;
   faults : g.K.Sink.faults l.sink ≡ g.K.Sink.faults l.fn.sink;
