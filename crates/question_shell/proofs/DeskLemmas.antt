@@ -127,7 +127,7 @@ within-none may read none = absurd (cc none)
 
 module _ {W : Type 0} (needs : W → Read → Bool) where
   -- what is needed where a place was given another walk, or none
-  pub needs-set : (may : Read → Bool) (walks : List (Option W)) (slot : ℕ) (place : Option W) → MayDraw needs walks may →
+  needs-set : (may : Read → Bool) (walks : List (Option W)) (slot : ℕ) (place : Option W) → MayDraw needs walks may →
       ReadsWithin (option_map_or needs place no_needs) may → MayDraw needs (set walks slot place) may
   needs-set may [] slot place held own other = held other
   needs-set may (first ∷ walks) zero place held own zero = own
@@ -135,6 +135,12 @@ module _ {W : Type 0} (needs : W → Read → Bool) where
   needs-set may (first ∷ walks) (suc slot) place held own zero = held zero
   needs-set may (first ∷ walks) (suc slot) place held own (suc other) =
       needs-set may walks slot place (λ other. held (suc other)) own other
+
+  -- the same of a desk that is so now
+  pub may-set : (may : Read → Bool) (walks now : List (Option W)) (slot : ℕ) (place : Option W) →
+      now ≡ set walks slot place → MayDraw needs walks may → ReadsWithin (option_map_or needs place no_needs) may →
+      MayDraw needs now may
+  may-set may walks now slot place is held own = rw is (needs-set may walks slot place held own)
 
   -- what is needed where the walk in a place was drawn from
   pub needs-drawn : (walks : List (Option W)) (slot : ℕ) (old new : W) (default : Option W) →

@@ -72,8 +72,8 @@ fn ask_chart<A: Meets, L: Reads>(
         (takes_memory (held_of desk) (Ok (Some question.now)) ≡ true) }
     ensures reads { (desk : DeskView) → OnErr result (steps.new
         ≤ steps.old + asked_cost (A.cost answerer) (held_of desk) (Ok (Some question.now))) }
-    ensures may { IfOk result (λ answer. (walks : List (Option A.Walk)) →
-        MayDraw A.Walk.needs walks L.may → MayAnswer A.Walk.needs L.may answer walks) }
+    ensures may { (walks : List (Option A.Walk)) → MayDraw A.Walk.needs walks L.may →
+        IfOk result (λ answer. MayAnswer A.Walk.needs L.may answer walks) }
 {
     // The rows of an answerer ascend, so that a count of stops fits.
     let facts = answerer.facts();

@@ -17,13 +17,13 @@ pub returns-in-More-clause-ok : goal.returns-in-More-clause-ok
 returns-in-More-clause-ok g c =
     let arm = c.in-More in
     let asked : c.args.question.now ≡ question.More arm.slot arm.count = arm.is in
-    rw asked (c.more.ensures _ c.args.steps.now)
+    rw asked (c.more.ensures.answer _ c.args.steps.now)
 
 pub returns-in-Free-clause-ok : goal.returns-in-Free-clause-ok
 returns-in-Free-clause-ok g c =
     let arm = c.in-Free in
     let asked : c.args.question.now ≡ question.Free arm.slot = arm.is in
-    rw asked (c.free.ensures _ c.args.steps.now)
+    rw asked (c.free.ensures.answer _ c.args.steps.now)
 
 -- the desk is not touched
 same : {T E D : Type 0} (result : Result T E) (desk : D) → OnErr result (desk ≡ desk)
@@ -34,6 +34,7 @@ pub returns-in_default : goal.returns-in_default
 returns-in_default g c = record {
   ok = c.ask_chart.ensures.ok c.args.desk.now.view;
   takes = c.ask_chart.ensures.takes c.args.desk.now.view;
-  desk = same c.ask_chart.result c.args.desk.now.view;
+  desk = same c.ask_chart.result c.args.desk.now;
   reads = c.ask_chart.ensures.reads c.args.desk.now.view;
+  may = c.ask_chart.ensures.may c.args.desk.now.walks c.requires.held;
 }

@@ -1,7 +1,8 @@
 use Rattle.std.proofs.lemmas.Grind.{common_steps}
-use Rattle.std.proofs.Common.{◌<◌, arith, length}
+use Rattle.std.proofs.Common.{Some, ◌<◌, arith, length}
 use Rattle.question_shell.specs.Session.{meaning_by}
 use Rattle.question_shell.proofs.CountLemmas.{asked_kept}
+use Rattle.question_shell.proofs.DeskLemmas.{may-set, within-none}
 use Rattle.question_shell.proofs.DrawingLemmas.{answer-hold}
 use Rattle.question_shell.proofs.asking.hold.Goals as goal
 
@@ -12,9 +13,20 @@ returns-clause-ok g c steps =
     let inside : c.args.slot < length c.args.desk.now.view = omega (arith, near.0, c.is_held.ensures.places) in
     answer-hold g.A.Walk.Lazy.left g.A.Walk.Lazy.budget (meaning_by g.A.Answerer c.args.answerer) c.args.desk.now.view
     c.args.slot steps c.args.object c.args.from c.args.to (g.A.Walk.Lazy.left walk, g.A.Walk.Lazy.budget walk)
-    c.hold.new.self inside (rw c.is_held.ensures.value at c.if-is_held.false) c.hold.ensures
+    c.hold.new.self.view inside (rw c.is_held.ensures.value at c.if-is_held.false) c.hold.ensures.view
     (simp (asked_kept c.args.from near.1, asked_kept c.args.to near.2) at c.in_ok-walk.ensures.left)
     (simp (asked_kept c.args.from near.1, asked_kept c.args.to near.2) at c.in_ok-walk.ensures.budget)
+
+pub returns-clause-may : goal.returns-clause-may
+returns-clause-may g c may within held =
+    let near = c.requires in
+    let walk = c.in_ok-walk.walk in
+    let needs = simp (asked_kept c.args.from near.1, asked_kept c.args.to near.2) at c.in_ok-walk.ensures.needs in
+    record {
+      own = within-none may;
+      held = may-set g.A.Walk.Lazy.needs may c.args.desk.now.walks c.hold.new.self.walks c.args.slot (Some walk)
+          c.hold.ensures.walks held (λ read is. within read (needs read is));
+    }
 
 pub returns-in_err-walk-clause-takes : goal.returns-in_err-walk-clause-takes
 returns-in_err-walk-clause-takes g c = grind (arith, common_steps)
