@@ -93,6 +93,17 @@ kept-short line short =
     let all : take 1024 line ≡ line = take_all 1024 line short in
     rw (none, all) (append-nil line)
 
+-- what is kept is kept whole
+telling-few : (bytes : List ℕ) → length bytes ≤ 1 → telling_byte bytes ≡ bytes
+telling-few [] few = refl
+telling-few (byte ∷ []) few = refl
+telling-few (byte ∷ next ∷ rest) few = absurd (omega (arith, few))
+
+pub kept-all : (line : List ℕ) → length line ≤ 1025 → kept_of line ≡ line
+kept-all line few =
+    ap (λ rest. take 1024 line ++ rest) (telling-few (drop 1024 line) (omega (arith, few, length-drop 1024 line)))
+    ∙ take-append-drop 1024 line
+
 kept-long : (line : List ℕ) → 1024 < length line → length (kept_of line) ≡ 1025
 kept-long line long =
     let front = take 1024 line in
