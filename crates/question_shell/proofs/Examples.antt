@@ -1,18 +1,23 @@
 -- The definitions, run on inputs that were worked out by hand.
 use Rattle.std.proofs.Common.{◌≡◌, ℕ, pos, negsuc, List, [], ◌∷◌, codes, refl, Ok, Err, Some, None, replicate, ◌++◌}
+use Rattle.std.proofs.Common.{Bool, false, true, map}
 use Rattle.std.specs.Fmt.{digits}
+use Rattle.step_count.specs.Reads.{Read, is_of_period, ofPeriod, ofRule}
 use Rattle.list_laws.specs.Ordered.{ordered, insert_in_order}
 use Rattle.track_types.specs.ByFilter.{hits_of, nearest_among, nears_at, nears_of, sightings_of}
 use Rattle.track_types.specs.Chart.{ChartView}
 use Rattle.track_types.specs.Meeting.{first_together, meeting_of, pairs_of}
 use Rattle.track_types.specs.declared.facts.Facts.{Facts}
+use Rattle.track_types.specs.declared.question.Question.{Question}
 use Rattle.track_types.specs.declared.question.Question.TheVariants as question
 use Rattle.track_types.specs.declared.region.Region.TheVariants as region
+use Rattle.question_shell.specs.Desk.{slot_needs}
 use Rattle.question_shell.specs.Grammar.{question_of}
 use Rattle.question_shell.specs.LineKept.{kept_of}
 use Rattle.track_types.specs.declared.shape.Shape.TheVariants as shape
 use Rattle.question_shell.specs.RegionWords.{shapes_cut, shapes_of}
 use Rattle.question_shell.specs.Lines.{input_lines, unended_line, whole_lines, words_of}
+use Rattle.question_shell.specs.Needs.{asked_needs}
 use Rattle.question_shell.specs.Replies.{costs_of, desk_after, replies_of}
 use Rattle.question_shell.specs.Reply.{listed}
 use Rattle.question_shell.specs.Slots.{replies_to_each, replies_to_slot}
@@ -314,3 +319,23 @@ costs_of_lines : (facts : Facts) →
     costs_of (λ asked. 5) chart facts [] (input_lines (codes "position 7 0\n\nwhere\ninfo\npath 7 0 2\n")) ≡ 10
 unfolding costs_of whole_lines unended_line
 costs_of_lines facts = refl
+
+-- an answerer whose paths need the period of their object's number, and whose other questions need every read
+needs_by_kind : Question → Read → Bool
+needs_by_kind (question.Path object from to) read = is_of_period object read
+needs_by_kind other read = true
+
+-- a `hold` needs what its path does, `more`, `free`, `info` and a bad line nothing, and a `slice` what the answerer says
+needs_of_lines : map (λ line. asked_needs needs_by_kind (question_of line) (ofPeriod 7))
+    (input_lines (codes "hold 15 7 0 2\nhold 15 8 0 2\nmore 0 9\nfree 3\ninfo\nwhere\nslice 0 disc 0 0 1\n"))
+    ≡ true ∷ false ∷ false ∷ false ∷ false ∷ false ∷ true ∷ []
+unfolding needs_by_kind whole_lines unended_line
+needs_of_lines = refl
+
+-- a walk in slot 0 that needs period 4, and nothing in slot 1
+needs_of_slots : map (λ slot. slot_needs is_of_period (Some 4 ∷ None ∷ []) slot (ofPeriod 4)) (0 ∷ 1 ∷ 2 ∷ [])
+    ≡ true ∷ false ∷ false ∷ []
+needs_of_slots = refl
+
+needs_of_rules : slot_needs is_of_period (Some 4 ∷ None ∷ []) 0 (ofRule 4) ≡ false
+needs_of_rules = refl
