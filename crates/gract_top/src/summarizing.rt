@@ -54,14 +54,14 @@ fn say_counts<A: Meets, K: Sink, L: Reads>(
     steps: &mut Steps<L>,
 ) -> Result<(), TurnFault>
     requires counted { All IsSlotless questions.now }
-    requires empty { held_of desk.old ≡ held_of empty_desk }
+    requires empty { held_of desk.old.view ≡ held_of empty_desk }
     requires may { AllMay L.may }
     ensures ok { OnOk result (Gains (K.said sink.old) (K.said sink.new)
         (counts_of (A.chart answerer) (A.facts answerer) questions.now)) }
     ensures err { OnErr result (SaysFront (K.said sink.old) (K.said sink.new)
         (counts_of (A.chart answerer) (A.facts answerer) questions.now)) }
-    ensures cost { steps.new + budget_of desk.new
-        ≤ steps.old + budget_of desk.old + sum_by (A.cost answerer) questions.now }
+    ensures cost { steps.new + budget_of desk.new.view
+        ≤ steps.old + budget_of desk.old.view + sum_by (A.cost answerer) questions.now }
     ensures faults { SinkCounts K.Sink sink.old sink.new (result ≡ Err fault.Say) }
 {
     for question in questions {

@@ -30,8 +30,8 @@ drawn g c =
 
 -- what one question more reads
 read : (g : Over) (c : After-count_found g) →
-    c.count_found.new.steps + budget_of c.count_found.new.desk
-    ≤ c.args.steps.now + budget_of c.args.desk.now + sum_by (g.A.Answerer.cost c.args.answerer) c.args.questions.now
+    c.count_found.new.steps + budget_of c.count_found.new.desk.view
+    ≤ c.args.steps.now + budget_of c.args.desk.now.view + sum_by (g.A.Answerer.cost c.args.answerer) c.args.questions.now
 read g c =
     let cost = g.A.Answerer.cost c.args.answerer in
     let all = c.args.questions.now in
@@ -39,10 +39,10 @@ read g c =
     let asked = c.question-item.result in
     let turn = drawn g c in
     IsCounting-read (g.A.Answerer.chart c.args.answerer) (g.A.Answerer.facts c.args.answerer) cost all (drop index all)
-    (drop (index + 1) all) asked (speech (g.K.Sink.said c.args.sink.now) (c.args.steps.now + budget_of c.args.desk.now))
-    (speech (g.K.Sink.said c.loop-question.sink) (c.loop-question.steps + budget_of c.loop-question.desk)) _
+    (drop (index + 1) all) asked (speech (g.K.Sink.said c.args.sink.now) (c.args.steps.now + budget_of c.args.desk.now.view))
+    (speech (g.K.Sink.said c.loop-question.sink) (c.loop-question.steps + budget_of c.loop-question.desk.view)) _
     c.loop-question.invariant.counting turn.more
-    (omega (arith, c.count_found.ensures.cost, counted-cost cost (held_of c.loop-question.desk) asked turn.counted))
+    (omega (arith, c.count_found.ensures.cost, counted-cost cost (held_of c.loop-question.desk.view) asked turn.counted))
 
 pub returns-in_default-clause-cost : goal.returns-in_default-clause-cost
 returns-in_default-clause-cost g c = read g (goal.at.returns-in_default-clause-cost g c).After-count_found
@@ -54,7 +54,7 @@ pub loop-question-init : goal.loop-question-init
 loop-question-init g c = record {
   counting = IsCounting-begun (g.A.Answerer.chart c.args.answerer) (g.A.Answerer.facts c.args.answerer)
       (g.A.Answerer.cost c.args.answerer) c.args.questions.now
-      (speech (g.K.Sink.said c.args.sink.now) (c.args.steps.now + budget_of c.args.desk.now));
+      (speech (g.K.Sink.said c.args.sink.now) (c.args.steps.now + budget_of c.args.desk.now.view));
   empty = c.requires.empty;
   faults = refl;
 }
@@ -66,13 +66,13 @@ loop-question-preserved g c =
     let cost = g.A.Answerer.cost c.args.answerer in
     let asked = c.question-item.result in
     let turn = drawn g (goal.at.loop-question-preserved g c).After-count_found in
-    let held = held_of c.loop-question.desk in
+    let held = held_of c.loop-question.desk.view in
     let line : count_line chart facts asked ≡ ok_line c.in-Ok.count =
     ap ok_line (sym (c.in-Ok.ensures.ok ∙ ap (λ desk. length (items_of chart facts desk asked)) c.loop-question.invariant.empty)) in
     record {
       counting = IsCounting-next chart facts cost c.in-Ok.count c.loop-question.invariant.counting
           turn.more line
-          (speech (g.K.Sink.said c.say_count.new.sink) (c.count_found.new.steps + budget_of c.count_found.new.desk))
+          (speech (g.K.Sink.said c.say_count.new.sink) (c.count_found.new.steps + budget_of c.count_found.new.desk.view))
           (omega (arith, c.in-Ok.ensures.cost, counted-cost cost held asked turn.counted)) c.in-Ok-say_count.ensures.ok;
       empty = c.in-Ok.ensures.desk ∙ (counted-desk chart held asked turn.counted ∙ c.loop-question.invariant.empty);
       faults = c.in-Ok-say_count.ensures.faults.untouched (λ failed. absurd (cc)) ∙ c.loop-question.invariant.faults;
@@ -96,7 +96,7 @@ returns-clause-ok g c =
     let index = c.loop-question.question-index in
     IsCounting-done (g.A.Answerer.chart c.args.answerer) (g.A.Answerer.facts c.args.answerer)
     (g.A.Answerer.cost c.args.answerer) all (drop index all)
-    (speech (g.K.Sink.said c.args.sink.now) (c.args.steps.now + budget_of c.args.desk.now))
-    (speech (g.K.Sink.said c.loop-question.sink) (c.loop-question.steps + budget_of c.loop-question.desk))
+    (speech (g.K.Sink.said c.args.sink.now) (c.args.steps.now + budget_of c.args.desk.now.view))
+    (speech (g.K.Sink.said c.loop-question.sink) (c.loop-question.steps + budget_of c.loop-question.desk.view))
     c.loop-question.invariant.counting
     (drop_all index all (omega (arith, c.loop-question-test.false)))

@@ -4,7 +4,7 @@ use Rattle.host_ports.specs.Histories.{Gains}
 use Rattle.std.specs.List.{sum_by}
 use Rattle.track_types.specs.declared.question.Question.{Question}
 use Rattle.track_types.specs.declared.question.Question.TheVariants as question
-use Rattle.question_shell.specs.Desk.{DeskView, budget_of, empty_desk}
+use Rattle.question_shell.specs.Desk.{DeskState, budget_of, empty_desk}
 use Rattle.question_shell.specs.Reply.{listed}
 use Rattle.question_shell.specs.Session.{Meaning, meaning_by}
 use Rattle.question_shell.specs.Turns.{AnswerTold, moment}
@@ -25,10 +25,11 @@ returns-in_err-say_reply-clause-err g c =
     let place = (goal.at.returns-in_err-say_reply-clause-err g c).After-say_reply in
     let of = meaning g place in
     let refused = c.in_err-say_reply.field-0.0 in
-    let now = moment (g.K.Sink.said c.say_reply.new.sink) [] c.say_reply.new.desk c.say_reply.new.steps in
-    let Told : DeskView → Type 0 = λ desk. AnswerTold of (moment (g.K.Sink.said c.args.sink.now) [] desk c.args.steps.now) now
+    let now = moment (g.K.Sink.said c.say_reply.new.sink) [] c.say_reply.new.desk.view c.say_reply.new.steps in
+    let Told : DeskState _ → Type 0 = λ desk.
+    AnswerTold of (moment (g.K.Sink.said c.args.sink.now) [] desk.view c.args.steps.now) now
     (Ok (Some question.Info)) (Err refused) in
-    let front = info-front of (g.K.Sink.said c.args.sink.now) (g.K.Sink.said c.say_reply.new.sink) c.say_reply.new.desk
+    let front = info-front of (g.K.Sink.said c.args.sink.now) (g.K.Sink.said c.say_reply.new.sink) c.say_reply.new.desk.view
     c.args.steps.now c.say_reply.new.steps refused
     (subst Told c.in-Ok.ensures c.in_err-say_reply.ensures.told) in
     on_err_always c.from_residual.result
@@ -41,11 +42,12 @@ returns-in_err-say_reply-clause-cost g c =
     let place = (goal.at.returns-in_err-say_reply-clause-cost g c).After-say_reply in
     let of = meaning g place in
     let refused = c.in_err-say_reply.field-0.0 in
-    let now = moment (g.K.Sink.said c.say_reply.new.sink) [] c.say_reply.new.desk c.say_reply.new.steps in
-    let Told : DeskView → Type 0 = λ desk. AnswerTold of (moment (g.K.Sink.said c.args.sink.now) [] desk c.args.steps.now) now
+    let now = moment (g.K.Sink.said c.say_reply.new.sink) [] c.say_reply.new.desk.view c.say_reply.new.steps in
+    let Told : DeskState _ → Type 0 = λ desk.
+    AnswerTold of (moment (g.K.Sink.said c.args.sink.now) [] desk.view c.args.steps.now) now
     (Ok (Some question.Info)) (Err refused) in
     let front = info-front of (g.K.Sink.said c.args.sink.now) (g.K.Sink.said c.say_reply.new.sink)
-    c.say_reply.new.desk c.args.steps.now c.say_reply.new.steps refused
+    c.say_reply.new.desk.view c.args.steps.now c.say_reply.new.steps refused
     (subst Told c.in-Ok.ensures c.in_err-say_reply.ensures.told) in
     omega (arith, front.1)
 
