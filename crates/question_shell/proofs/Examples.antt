@@ -325,7 +325,7 @@ needs_by_kind : Question → Read → Bool
 needs_by_kind (question.Path object from to) read = is_of_period object read
 needs_by_kind other read = true
 
--- a `hold` needs what its path does, `more`, `free`, `info` and a bad line nothing, and a `slice` what the answerer says
+-- a `hold` needs what its path does, a `slice` what the answerer says, and `more`, `free`, `info` and a bad line nothing
 needs_of_lines : map (λ line. asked_needs needs_by_kind (question_of line) (ofPeriod 7))
     (input_lines (codes "hold 15 7 0 2\nhold 15 8 0 2\nmore 0 9\nfree 3\ninfo\nwhere\nslice 0 disc 0 0 1\n"))
     ≡ true ∷ false ∷ false ∷ false ∷ false ∷ false ∷ true ∷ []

@@ -1,6 +1,6 @@
 -- The desk: 16 places for held walks.
-use Rattle.std.specs.Prelude.{◌≡◌, ℕ, ◌+◌, ◌≤◌, Bool, false, List, [], map, replicate, Option, None, option_map, is_some}
-use Rattle.std.specs.Prelude.{slice_index_or, slice_set}
+use Rattle.std.specs.Prelude.{◌≡◌, ℕ, ◌+◌, ◌≤◌, Bool, List, [], map, replicate, Option, None, option_map, is_some}
+use Rattle.std.specs.Prelude.{false, slice_index_or, slice_set}
 use Rattle.std.specs.Option.{option_map_or}
 use Rattle.std.specs.List.{sum_by}
 use Rattle.step_count.specs.Reads.{Read, ReadsWithin}

@@ -1,10 +1,11 @@
 -- What is left of an answer, while its items are drawn.
-use Rattle.std.specs.Prelude.{◌≡◌, ℕ, ◌+◌, ◌<◌, ◌≤◌, ◌^◌, ⊤, Bool, List, [], ◌++◌, drop, length, map, take, Option, Some, None, Ok}
-use Rattle.std.specs.Prelude.{option_map, option_to_list, slice_set}
+use Rattle.std.specs.Prelude.{◌≡◌, ℕ, ◌+◌, ◌<◌, ◌≤◌, ◌^◌, ⊤, List, [], ◌++◌, drop, length, map, take, Option, Some, None, Ok}
+use Rattle.std.specs.Prelude.{Bool, option_map, option_to_list, slice_set}
 use Rattle.step_count.specs.Reads.{Read, ReadsWithin}
 use Rattle.track_types.specs.declared.question.Question.{Question}
 use Rattle.track_types.specs.declared.stop.Stop.{Stop}
-use Rattle.question_shell.specs.Desk.{DeskView, MayDraw, NeedsNoMore, budget_of, held_of, no_needs, slot_needs, slot_stops}
+use Rattle.question_shell.specs.Desk.{DeskView, MayDraw, NeedsNoMore, budget_of, held_of, no_needs, slot_needs}
+use Rattle.question_shell.specs.Desk.{slot_stops}
 use Rattle.question_shell.specs.Items.{items_of, stops_at}
 use Rattle.question_shell.specs.Reply.{asked_cost, desk_of, free_line, held_line, refusal_of}
 use Rattle.question_shell.specs.Session.{Meaning}

@@ -63,7 +63,8 @@ pub(crate) fn answer_question<A: Meets, K: Sink, L: Reads>(
     requires held { MayDraw A.Walk.needs desk.old.walks L.may }
     ensures told { AnswerTold (meaning_by A.Answerer answerer)
         (moment (K.said sink.old) text.old desk.old.view steps.old)
-        (moment (K.said sink.new) text.new desk.new.view steps.new) (Ok (Some question.now)) result }
+        (moment (K.said sink.new) text.new desk.new.view steps.new)
+        (Ok (Some question.now)) result }
     ensures faults { SinkCounts K.Sink sink.old sink.new (result ≡ Err fault.Say) }
     ensures held { MayDraw A.Walk.needs desk.new.walks L.may }
 {

@@ -1,4 +1,5 @@
-ghost use Rattle.std.specs.Prelude.{◌≡◌, ℕ, ◌+◌, ◌<◌, ◌≤◌, Bool, IfOk, List, OnErr, Ok, Option, Some, true};
+ghost use Rattle.std.specs.Prelude.{◌≡◌, ℕ, ◌+◌, ◌<◌, ◌≤◌, IfOk, OnErr, Ok, Some, true};
+ghost use Rattle.std.specs.Prelude.{Bool, List, Option};
 ghost use Rattle.step_count.specs.Reads.{Read, ReadsWithin};
 ghost use Rattle.std.specs.Prelude.{map, option_to_list};
 ghost use Rattle.track_types.specs.declared.question.Question.TheVariants as question;
@@ -35,10 +36,11 @@ pub(crate) fn ask<A: Meets, L: Reads>(
     ensures ok { IfOk result (λ answer. IsAnswer A.Walk.left A.Walk.budget
         (meaning_by A.Answerer answerer)
         question.now desk.old.view steps.old answer desk.new.view steps.new) }
-    ensures takes { OnErr result (takes_memory (held_of desk.old.view) (Ok (Some question.now)) ≡ true) }
+    ensures takes { OnErr result
+        (takes_memory (held_of desk.old.view) (Ok (Some question.now)) ≡ true) }
     ensures desk { OnErr result (desk.new ≡ desk.old) }
-    ensures reads { OnErr result (steps.new
-        ≤ steps.old + asked_cost (A.cost answerer) (held_of desk.old.view) (Ok (Some question.now))) }
+    ensures reads { OnErr result (steps.new ≤ steps.old
+        + asked_cost (A.cost answerer) (held_of desk.old.view) (Ok (Some question.now))) }
     ensures may { IfOk result (λ answer. MayAnswer A.Walk.needs L.may answer desk.new.walks) }
 {
     match question {
@@ -164,7 +166,7 @@ fn hold<A: Meets>(
 // The next stops of a slot.
 fn more<W: Lazy<Item = Stop> + Drop>(desk: &Desk<W>, slot: u8, count: u32) -> Answer<W>
     requires { slot < 16 }
-    ensures answer { (meaning : Meaning) → (steps : ℕ) → IsAnswer W.left W.budget meaning
+    ensures value { (meaning : Meaning) → (steps : ℕ) → IsAnswer W.left W.budget meaning
         (question.More slot count) desk.now.view steps result desk.now.view steps }
     ensures may { (may : Read → Bool) → MayDraw W.needs desk.now.walks may →
         MayAnswer W.needs may result desk.now.walks }
@@ -179,7 +181,7 @@ fn more<W: Lazy<Item = Stop> + Drop>(desk: &Desk<W>, slot: u8, count: u32) -> An
 // Empties a slot.
 fn free<W: Lazy<Item = Stop> + Drop>(desk: &mut Desk<W>, slot: u8) -> Answer<W>
     requires { slot < 16 }
-    ensures answer { (meaning : Meaning) → (steps : ℕ) → IsAnswer W.left W.budget meaning
+    ensures value { (meaning : Meaning) → (steps : ℕ) → IsAnswer W.left W.budget meaning
         (question.Free slot) desk.old.view steps result desk.new.view steps }
     ensures may { (may : Read → Bool) → MayDraw W.needs desk.old.walks may →
         MayAnswer W.needs may result desk.new.walks }

@@ -1,7 +1,8 @@
 ghost use Rattle.std.specs.Prelude.{◌≡◌, ◌+◌, ◌<◌, ◌^◌, ◌≤◌, IfOk, OnOk, OnErr, Ok, Some, length};
 ghost use Rattle.step_count.specs.Reads.{ReadsWithin};
 ghost use Rattle.question_shell.specs.Desk.{MayDraw, NeedsNoMore, budget_of, held_of};
-ghost use Rattle.question_shell.specs.Drawing.{IsOfDesk, desk_left, items_left, needs_left, reads_left};
+ghost use Rattle.question_shell.specs.Drawing.{IsOfDesk, desk_left, items_left, needs_left};
+ghost use Rattle.question_shell.specs.Drawing.{reads_left};
 ghost use Rattle.question_shell.specs.Grammar.{AreAsked};
 ghost use Rattle.question_shell.specs.Items.{items_of};
 ghost use Rattle.question_shell.specs.Needs.{question_needs};
@@ -27,8 +28,8 @@ pub fn count_found<A: Meets, L: Reads>(
     requires asked { AreAsked question }
     requires may { ReadsWithin (question_needs (A.needs answerer) question) L.may }
     requires held { MayDraw A.Walk.needs desk.old.walks L.may }
-    ensures ok { IfOk result (λ count. count
-        ≡ length (items_of (A.chart answerer) (A.facts answerer) (held_of desk.old.view) question)) }
+    ensures ok { IfOk result (λ count. count ≡ length
+        (items_of (A.chart answerer) (A.facts answerer) (held_of desk.old.view) question)) }
     ensures desk { OnOk result (
         held_of desk.new.view ≡ desk_of (A.chart answerer) (held_of desk.old.view) question) }
     ensures untouched { OnErr result (desk.new ≡ desk.old) }

@@ -69,7 +69,8 @@ impl<W: Lazy<Item = Stop> + Drop> Desk<W> {
     pub fn draw<L: Reads>(&mut self, slot: u8, steps: &mut Steps<L>) -> Option<Stop>
         requires slot { slot < 16 }
         requires may { ReadsWithin (slot_needs W.needs self.old.walks slot) L.may }
-        ensures found { slot_stops self.old.view slot ≡ option_to_list result ++ slot_stops self.new.view slot }
+        ensures found { slot_stops self.old.view slot
+            ≡ option_to_list result ++ slot_stops self.new.view slot }
         ensures none { IfNone result (slot_stops self.old.view slot ≡ []) }
         ensures cost { steps.new + budget_in self.new.view slot
             ≤ steps.old + budget_in self.old.view slot }

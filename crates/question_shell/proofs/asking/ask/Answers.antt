@@ -17,13 +17,13 @@ pub returns-in-More-clause-ok : goal.returns-in-More-clause-ok
 returns-in-More-clause-ok g c =
     let arm = c.in-More in
     let asked : c.args.question.now ≡ question.More arm.slot arm.count = arm.is in
-    rw asked (c.more.ensures.answer _ c.args.steps.now)
+    rw asked (c.more.ensures.value _ c.args.steps.now)
 
 pub returns-in-Free-clause-ok : goal.returns-in-Free-clause-ok
 returns-in-Free-clause-ok g c =
     let arm = c.in-Free in
     let asked : c.args.question.now ≡ question.Free arm.slot = arm.is in
-    rw asked (c.free.ensures.answer _ c.args.steps.now)
+    rw asked (c.free.ensures.value _ c.args.steps.now)
 
 -- the desk is not touched
 same : {T E D : Type 0} (result : Result T E) (desk : D) → OnErr result (desk ≡ desk)

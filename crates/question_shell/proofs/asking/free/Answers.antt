@@ -3,8 +3,8 @@ use Rattle.question_shell.proofs.DeskLemmas.{may-set, within-none}
 use Rattle.question_shell.proofs.DrawingLemmas.{answer-empty, answer-freed}
 use Rattle.question_shell.proofs.asking.free.Goals as goal
 
-pub returns-in_default-clause-answer : goal.returns-in_default-clause-answer
-returns-in_default-clause-answer g c meaning steps =
+pub returns-in_default-clause-value : goal.returns-in_default-clause-value
+returns-in_default-clause-value g c meaning steps =
     answer-empty g.W.Lazy.left g.W.Lazy.budget meaning c.args.desk.now.view c.args.slot steps c.release.new.self.view
     (sym c.in_default.ensures.walk) c.in_default.ensures.emptied
 
@@ -22,7 +22,7 @@ returns-clause-may g c may held = record {
       c.in-Some.ensures.walks held (within-none may);
 }
 
-pub returns-clause-answer : goal.returns-clause-answer
-returns-clause-answer g c meaning steps =
+pub returns-clause-value : goal.returns-clause-value
+returns-clause-value g c meaning steps =
     answer-freed g.W.Lazy.left g.W.Lazy.budget meaning c.args.desk.now.view c.args.slot steps _ c.release.new.self.view
     (sym c.in-Some.ensures.walk) c.in-Some.ensures.emptied

@@ -10,7 +10,8 @@ invariant-loop-line g l = record {
   faults : g.K.Sink.faults l.sink ≡ g.K.Sink.faults l.fn.sink;
   heard : (start : Moment) (came : List ℕ) →
       let meaning = meaning_by g.A.Answerer l.answerer in
-      Heard meaning start (moment (g.K.Sink.said l.fn.sink) l.fn.talk.text l.fn.desk.view l.fn.steps) came l.fn.talk.line →
+      Heard meaning start (moment (g.K.Sink.said l.fn.sink) l.fn.talk.text l.fn.desk.view l.fn.steps) came
+      l.fn.talk.line →
       Heard meaning start (moment (g.K.Sink.said l.sink) l.talk.text l.desk.view l.steps) (came ++ front) l.talk.line;
 }
 

@@ -4,8 +4,8 @@ use Rattle.question_shell.specs.Drawing.{items_left, refusal_left}
 use Rattle.question_shell.specs.Items.{line_of}
 use Rattle.question_shell.specs.Reply.{last_line}
 use Rattle.question_shell.specs.Says.{voice}
-use Rattle.question_shell.proofs.DrawingLemmas.{cuts-next, gives-more, gives-nothing, needs-more, needs-nothing, says-next}
-use Rattle.question_shell.proofs.DrawingLemmas.{told-last}
+use Rattle.question_shell.proofs.DrawingLemmas.{cuts-next, gives-more, gives-nothing, needs-more, needs-nothing}
+use Rattle.question_shell.proofs.DrawingLemmas.{says-next, told-last}
 use Rattle.question_shell.proofs.SaysLemmas.{says-nothing}
 use Rattle.question_shell.proofs.saying.say_items.Goals as goal
 

@@ -66,7 +66,8 @@ brings : (g : Over) (c : After-take_piece g) →
     Brings c.pieces.invariant.bytes
     (run_by g.S.Source g.K.Sink c.pieces.source c.pieces.sink
     c.pieces.desk.view c.pieces.steps)
-    (run_by g.S.Source g.K.Sink c.listen.new.self c.take_piece.new.sink c.take_piece.new.desk.view c.take_piece.new.steps)
+    (run_by g.S.Source g.K.Sink c.listen.new.self c.take_piece.new.sink c.take_piece.new.desk.view
+    c.take_piece.new.steps)
     (take c.in_ok-count.count c.listen.new.buf)
     (take c.min-counted.result (c.listen.new.buf ++ drop c.min-room.result c.pieces.buffer))
 brings g c =

@@ -15,7 +15,8 @@ invariant-pieces g l = record {
   within : l.taken ≤ limit_of Questions + 1;
   heard : Heard
       (meaning_by g.A.Answerer l.answerer)
-      (moment (g.K.Sink.said l.fn.sink) [] l.fn.desk.view l.fn.steps) (moment (g.K.Sink.said l.sink) [] l.desk.view l.steps)
+      (moment (g.K.Sink.said l.fn.sink) [] l.fn.desk.view l.fn.steps)
+      (moment (g.K.Sink.said l.sink) [] l.desk.view l.steps)
       (take (limit_of Questions) bytes) l.talk.line;
   text : l.talk.text ≡ [];
   listen_faults : g.S.Source.faults l.source ≡ g.S.Source.faults l.fn.source;

@@ -17,7 +17,8 @@ returns-in_err-draw_more-in-More-clause-none g c =
     let drawn = c.in_err-draw_more-in-More.ensures in
     rw c.from_residual-in_err-draw_more-in-More.ensures (record {
       items = ap (map item.Stop) drawn.none;
-      held = held-same g.W.Lazy.left g.W.Lazy.budget c.draw_more.new.desk.view c.in-More.slot c.draw_more.new.count drawn.none;
+      held = held-same g.W.Lazy.left g.W.Lazy.budget c.draw_more.new.desk.view c.in-More.slot c.draw_more.new.count
+          drawn.none;
     })
 
 pub returns-in_ok-draw_more-in-More-clause-gives : goal.returns-in_ok-draw_more-in-More-clause-gives
