@@ -31,7 +31,8 @@ drawn g c =
 -- what one question more reads
 read : (g : Over) (c : After-count_found g) →
     c.count_found.new.steps + budget_of c.count_found.new.desk.view
-    ≤ c.args.steps.now + budget_of c.args.desk.now.view + sum_by (g.A.Answerer.cost c.args.answerer) c.args.questions.now
+    ≤ c.args.steps.now + budget_of c.args.desk.now.view
+    + sum_by (g.A.Answerer.cost c.args.answerer) c.args.questions.now
 read g c =
     let cost = g.A.Answerer.cost c.args.answerer in
     let all = c.args.questions.now in
@@ -39,10 +40,12 @@ read g c =
     let asked = c.question-item.result in
     let turn = drawn g c in
     IsCounting-read (g.A.Answerer.chart c.args.answerer) (g.A.Answerer.facts c.args.answerer) cost all (drop index all)
-    (drop (index + 1) all) asked (speech (g.K.Sink.said c.args.sink.now) (c.args.steps.now + budget_of c.args.desk.now.view))
+    (drop (index + 1) all) asked
+    (speech (g.K.Sink.said c.args.sink.now) (c.args.steps.now + budget_of c.args.desk.now.view))
     (speech (g.K.Sink.said c.loop-question.sink) (c.loop-question.steps + budget_of c.loop-question.desk.view)) _
     c.loop-question.invariant.counting turn.more
-    (omega (arith, c.count_found.ensures.cost, counted-cost cost (held_of c.loop-question.desk.view) asked turn.counted))
+    (omega (arith, c.count_found.ensures.cost,
+    counted-cost cost (held_of c.loop-question.desk.view) asked turn.counted))
 
 pub returns-in_default-clause-cost : goal.returns-in_default-clause-cost
 returns-in_default-clause-cost g c = read g (goal.at.returns-in_default-clause-cost g c).After-count_found
@@ -72,7 +75,8 @@ loop-question-preserved g c =
     record {
       counting = IsCounting-next chart facts cost c.in-Ok.count c.loop-question.invariant.counting
           turn.more line
-          (speech (g.K.Sink.said c.say_count.new.sink) (c.count_found.new.steps + budget_of c.count_found.new.desk.view))
+          (speech (g.K.Sink.said c.say_count.new.sink)
+          (c.count_found.new.steps + budget_of c.count_found.new.desk.view))
           (omega (arith, c.in-Ok.ensures.cost, counted-cost cost held asked turn.counted)) c.in-Ok-say_count.ensures.ok;
       empty = c.in-Ok.ensures.desk ∙ (counted-desk chart held asked turn.counted ∙ c.loop-question.invariant.empty);
       faults = c.in-Ok-say_count.ensures.faults.untouched (λ failed. absurd (cc)) ∙ c.loop-question.invariant.faults;

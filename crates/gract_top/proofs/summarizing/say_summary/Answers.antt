@@ -29,8 +29,8 @@ returns-in_err-say_reply-clause-err g c =
     let Told : DeskState _ → Type 0 = λ desk.
     AnswerTold of (moment (g.K.Sink.said c.args.sink.now) [] desk.view c.args.steps.now) now
     (Ok (Some question.Info)) (Err refused) in
-    let front = info-front of (g.K.Sink.said c.args.sink.now) (g.K.Sink.said c.say_reply.new.sink) c.say_reply.new.desk.view
-    c.args.steps.now c.say_reply.new.steps refused
+    let front = info-front of (g.K.Sink.said c.args.sink.now) (g.K.Sink.said c.say_reply.new.sink)
+    c.say_reply.new.desk.view c.args.steps.now c.say_reply.new.steps refused
     (subst Told c.in-Ok.ensures c.in_err-say_reply.ensures.told) in
     on_err_always c.from_residual.result
     (SaysFront-more (g.K.Sink.said c.args.sink.now) (g.K.Sink.said c.say_reply.new.sink)
