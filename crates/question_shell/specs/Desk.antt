@@ -45,7 +45,8 @@ pub record Draws (before now : DeskView) (slot start end : ℕ) : Type 0 where
   pub others : now ≡ slice_set before slot (slot_walk now slot)
   pub cost : end + budget_in now slot ≤ start + budget_in before slot
 
--- A desk: what is seen of its places, and the walks in them.
+-- A desk: what is seen of its places, and the walks in them, by which it is told what they need. (What they need is a
+-- function, which no model's value may hold.)
 pub record DeskState (W : Type 0) : Type 0 where
   pub view : DeskView
   pub walks : List (Option W)
