@@ -8,7 +8,7 @@ use Rattle.std.proofs.lemmas.List.{get_or-map, get_or-set_same, length-map, map-
 use Rattle.std.proofs.lemmas.List.Sums.{sum_by-set}
 use Rattle.step_count.specs.Reads.{Read, ReadsWithin}
 use Rattle.track_types.specs.declared.stop.Stop.{Stop}
-use Rattle.question_shell.specs.Desk.{DeskView, Draws, MayDraw, NeedsNoMore, budget_in, budget_of, held_of, is_held_in}
+use Rattle.question_shell.specs.Desk.{DeskView, Draws, NeedsAtMost, NeedsNoMore, budget_in, budget_of, held_of, is_held_in}
 use Rattle.question_shell.specs.Desk.{no_needs, slot_walk, slot_stops}
 use Rattle.question_shell.specs.Items.{stops_at}
 
@@ -127,20 +127,20 @@ within-none may read none = absurd (cc none)
 
 module _ {W : Type 0} (needs : W → Read → Bool) where
   -- what is needed where a place was given another walk, or none
-  needs-set : (may : Read → Bool) (walks : List (Option W)) (slot : ℕ) (place : Option W) → MayDraw needs walks may →
-      ReadsWithin (option_map_or needs place no_needs) may → MayDraw needs (set walks slot place) may
-  needs-set may [] slot place held own other = held other
-  needs-set may (first ∷ walks) zero place held own zero = own
-  needs-set may (first ∷ walks) zero place held own (suc other) = held (suc other)
-  needs-set may (first ∷ walks) (suc slot) place held own zero = held zero
-  needs-set may (first ∷ walks) (suc slot) place held own (suc other) =
-      needs-set may walks slot place (λ other. held (suc other)) own other
+  needs-set : (these : Read → Bool) (walks : List (Option W)) (slot : ℕ) (place : Option W) →
+      ReadsWithin (option_map_or needs place no_needs) these → NeedsAtMost needs walks these (set walks slot place)
+  needs-set these [] slot place own other read is = inl is
+  needs-set these (first ∷ walks) zero place own zero read is = inr (own read is)
+  needs-set these (first ∷ walks) zero place own (suc other) read is = inl is
+  needs-set these (first ∷ walks) (suc slot) place own zero read is = inl is
+  needs-set these (first ∷ walks) (suc slot) place own (suc other) read is =
+      needs-set these walks slot place own other read is
 
   -- the same of a desk that is so now
-  pub may-set : (may : Read → Bool) (walks now : List (Option W)) (slot : ℕ) (place : Option W) →
-      now ≡ set walks slot place → MayDraw needs walks may → ReadsWithin (option_map_or needs place no_needs) may →
-      MayDraw needs now may
-  may-set may walks now slot place is held own = rw is (needs-set may walks slot place held own)
+  pub at-most-set : (these : Read → Bool) (walks now : List (Option W)) (slot : ℕ) (place : Option W) →
+      now ≡ set walks slot place → ReadsWithin (option_map_or needs place no_needs) these →
+      NeedsAtMost needs walks these now
+  at-most-set these walks now slot place is own = rw is (needs-set these walks slot place own)
 
   -- what is needed where the walk in a place was drawn from
   pub needs-drawn : (walks : List (Option W)) (slot : ℕ) (old new : W) (default : Option W) →

@@ -325,10 +325,12 @@ needs_by_kind : Question → Read → Bool
 needs_by_kind (question.Path object from to) read = is_of_period object read
 needs_by_kind other read = true
 
--- a `hold` needs what its path does, a `slice` what the answerer says, and `more`, `free`, `info` and a bad line nothing
-needs_of_lines : map (λ line. asked_needs needs_by_kind (question_of line) (ofPeriod 7))
-    (input_lines (codes "hold 15 7 0 2\nhold 15 8 0 2\nmore 0 9\nfree 3\ninfo\nwhere\nslice 0 disc 0 0 1\n"))
-    ≡ true ∷ false ∷ false ∷ false ∷ false ∷ false ∷ true ∷ []
+-- A `hold` needs what its path does, a `more` what the walk in its slot does, a `slice` what the answerer says, and
+-- `free`, `info` and a bad line nothing. Here slot 0 holds a walk that needs period 7.
+needs_of_lines : map (λ line.
+    asked_needs needs_by_kind (slot_needs is_of_period (Some 7 ∷ None ∷ [])) (question_of line) (ofPeriod 7))
+    (input_lines (codes "hold 15 7 0 2\nhold 15 8 0 2\nmore 0 9\nmore 1 9\nfree 0\ninfo\nwhere\nslice 0 disc 0 0 1\n"))
+    ≡ true ∷ false ∷ true ∷ false ∷ false ∷ false ∷ false ∷ true ∷ []
 unfolding needs_by_kind whole_lines unended_line
 needs_of_lines = refl
 

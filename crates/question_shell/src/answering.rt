@@ -2,7 +2,7 @@ ghost use Rattle.std.specs.Prelude.{◌≡◌, ◌≢◌, ◌≤◌, [], Some, O
 ghost use Rattle.step_count.specs.Reads.{ReadsWithin};
 ghost use Rattle.host_ports.specs.Faults.{Rose};
 ghost use Rattle.host_ports.specs.Counting.{SinkCounts};
-ghost use Rattle.question_shell.specs.Desk.{MayDraw};
+ghost use Rattle.question_shell.specs.Desk.{NeedsAtMost, slot_needs};
 ghost use Rattle.question_shell.specs.Grammar.{AreAsked};
 ghost use Rattle.question_shell.specs.Needs.{question_needs};
 ghost use Rattle.question_shell.specs.Session.{meaning_by};
@@ -33,15 +33,16 @@ pub fn say_reply<A: Meets, K: Sink, L: Reads>(
     steps: &mut Steps<L>,
 ) -> Result<(), TurnFault>
     requires asked { AreAsked question }
-    requires may { ReadsWithin (question_needs (A.needs answerer) question) L.may }
-    requires held { MayDraw A.Walk.needs desk.old.walks L.may }
+    requires may { ReadsWithin (question_needs (A.needs answerer)
+        (slot_needs A.Walk.needs desk.old.walks) question) L.may }
     ensures told { AnswerTold (meaning_by A.Answerer answerer)
         (moment (K.said sink.old) [] desk.old.view steps.old)
         (moment (K.said sink.new) [] desk.new.view steps.new) (Ok (Some question)) result }
     ensures cause { result ≡ Err fault.Say → Rose (K.faults sink.old) (K.faults sink.new) }
     ensures untouched { result ≢ Err fault.Say → K.faults sink.new ≡ K.faults sink.old }
     ensures faults { K.faults sink.old ≤ K.faults sink.new }
-    ensures held { MayDraw A.Walk.needs desk.new.walks L.may }
+    ensures held { NeedsAtMost A.Walk.needs desk.old.walks (question_needs (A.needs answerer)
+        (slot_needs A.Walk.needs desk.old.walks) question) desk.new.walks }
 {
     let mut text = HeldText::new();
     answer_question(alloc, answerer, &question, desk, &mut text, sink, steps)?;
@@ -59,14 +60,15 @@ pub(crate) fn answer_question<A: Meets, K: Sink, L: Reads>(
     steps: &mut Steps<L>,
 ) -> Result<(), TurnFault>
     requires asked { AreAsked question.now }
-    requires may { ReadsWithin (question_needs (A.needs answerer) question.now) L.may }
-    requires held { MayDraw A.Walk.needs desk.old.walks L.may }
+    requires may { ReadsWithin (question_needs (A.needs answerer)
+        (slot_needs A.Walk.needs desk.old.walks) question.now) L.may }
     ensures told { AnswerTold (meaning_by A.Answerer answerer)
         (moment (K.said sink.old) text.old desk.old.view steps.old)
         (moment (K.said sink.new) text.new desk.new.view steps.new)
         (Ok (Some question.now)) result }
     ensures faults { SinkCounts K.Sink sink.old sink.new (result ≡ Err fault.Say) }
-    ensures held { MayDraw A.Walk.needs desk.new.walks L.may }
+    ensures held { NeedsAtMost A.Walk.needs desk.old.walks (question_needs (A.needs answerer)
+        (slot_needs A.Walk.needs desk.old.walks) question.now) desk.new.walks }
 {
     let mut answer = ask(alloc, answerer, question, desk, steps)?;
     Ok(say_answer(&mut answer, desk, text, sink, steps)?)

@@ -3,8 +3,8 @@ ghost use Rattle.std.specs.Prelude.{Bool, List, Option};
 ghost use Rattle.step_count.specs.Reads.{Read, ReadsWithin};
 ghost use Rattle.std.specs.Prelude.{map, option_to_list};
 ghost use Rattle.track_types.specs.declared.question.Question.TheVariants as question;
-ghost use Rattle.question_shell.specs.Desk.{DeskView, MayDraw, held_of};
-ghost use Rattle.question_shell.specs.Drawing.{IsAnswer, MayAnswer};
+ghost use Rattle.question_shell.specs.Desk.{DeskView, held_of, no_needs, slot_needs};
+ghost use Rattle.question_shell.specs.Drawing.{AnswerWithin, IsAnswer};
 ghost use Rattle.question_shell.specs.Grammar.{AreAsked};
 ghost use Rattle.question_shell.specs.Needs.{question_needs};
 ghost use Rattle.question_shell.specs.Reply.{asked_cost};
@@ -31,8 +31,8 @@ pub(crate) fn ask<A: Meets, L: Reads>(
     steps: &mut Steps<L>,
 ) -> Result<Answer<A::Walk>, Memory>
     requires asked { AreAsked question.now }
-    requires may { ReadsWithin (question_needs (A.needs answerer) question.now) L.may }
-    requires held { MayDraw A.Walk.needs desk.old.walks L.may }
+    requires may { ReadsWithin (question_needs (A.needs answerer)
+        (slot_needs A.Walk.needs desk.old.walks) question.now) L.may }
     ensures ok { IfOk result (λ answer. IsAnswer A.Walk.left A.Walk.budget
         (meaning_by A.Answerer answerer)
         question.now desk.old.view steps.old answer desk.new.view steps.new) }
@@ -41,7 +41,9 @@ pub(crate) fn ask<A: Meets, L: Reads>(
     ensures desk { OnErr result (desk.new ≡ desk.old) }
     ensures reads { OnErr result (steps.new ≤ steps.old
         + asked_cost (A.cost answerer) (held_of desk.old.view) (Ok (Some question.now))) }
-    ensures may { IfOk result (λ answer. MayAnswer A.Walk.needs L.may answer desk.new.walks) }
+    ensures needs { IfOk result (λ answer. AnswerWithin A.Walk.needs
+        (question_needs (A.needs answerer) (slot_needs A.Walk.needs desk.old.walks) question.now)
+        answer desk.old.walks desk.new.walks) }
 {
     match question {
         Question::Hold {
@@ -66,7 +68,8 @@ fn ask_chart<A: Meets, L: Reads>(
 ) -> Result<Answer<A::Walk>, Memory>
     requires asked { AreAsked question.now }
     requires part { slot_part question.now ≡ OfNoSlot }
-    requires may { ReadsWithin (question_needs (A.needs answerer) question.now) L.may }
+    requires may { (held : ℕ → Read → Bool)
+        × ReadsWithin (question_needs (A.needs answerer) held question.now) L.may }
     ensures ok { (desk : DeskView) → IfOk result (λ answer. IsAnswer A.Walk.left A.Walk.budget
         (meaning_by A.Answerer answerer)
         question.now desk steps.old answer desk steps.new) }
@@ -74,8 +77,9 @@ fn ask_chart<A: Meets, L: Reads>(
         (takes_memory (held_of desk) (Ok (Some question.now)) ≡ true) }
     ensures reads { (desk : DeskView) → OnErr result (steps.new
         ≤ steps.old + asked_cost (A.cost answerer) (held_of desk) (Ok (Some question.now))) }
-    ensures may { (walks : List (Option A.Walk)) → MayDraw A.Walk.needs walks L.may →
-        IfOk result (λ answer. MayAnswer A.Walk.needs L.may answer walks) }
+    ensures needs { (walks : List (Option A.Walk)) → IfOk result (λ answer.
+        AnswerWithin A.Walk.needs (question_needs (A.needs answerer)
+        (slot_needs A.Walk.needs walks) question.now) answer walks walks) }
 {
     // The rows of an answerer ascend, so that a count of stops fits.
     let facts = answerer.facts();
@@ -150,10 +154,9 @@ fn hold<A: Meets>(
     ensures takes { OnErr result (takes_memory (held_of desk.old.view)
         (Ok (Some (question.Hold slot object from to))) ≡ true) }
     ensures desk { OnErr result (desk.new ≡ desk.old) }
-    ensures may { (may : Read → Bool) →
-        ReadsWithin (question_needs (A.needs answerer) (question.Hold slot object from to)) may →
-        MayDraw A.Walk.needs desk.old.walks may →
-        IfOk result (λ answer. MayAnswer A.Walk.needs may answer desk.new.walks) }
+    ensures needs { IfOk result (λ answer. AnswerWithin A.Walk.needs
+        (A.needs answerer (question.Path object from to))
+        answer desk.old.walks desk.new.walks) }
 {
     if desk.is_held(slot) {
         return Ok(Answer::Held);
@@ -168,8 +171,8 @@ fn more<W: Lazy<Item = Stop> + Drop>(desk: &Desk<W>, slot: u8, count: u32) -> An
     requires { slot < 16 }
     ensures value { (meaning : Meaning) → (steps : ℕ) → IsAnswer W.left W.budget meaning
         (question.More slot count) desk.now.view steps result desk.now.view steps }
-    ensures may { (may : Read → Bool) → MayDraw W.needs desk.now.walks may →
-        MayAnswer W.needs may result desk.now.walks }
+    ensures needs { AnswerWithin W.needs (slot_needs W.needs desk.now.walks slot)
+        result desk.now.walks desk.now.walks }
 {
     if desk.is_held(slot) {
         Answer::More { slot, count }
@@ -183,8 +186,7 @@ fn free<W: Lazy<Item = Stop> + Drop>(desk: &mut Desk<W>, slot: u8) -> Answer<W>
     requires { slot < 16 }
     ensures value { (meaning : Meaning) → (steps : ℕ) → IsAnswer W.left W.budget meaning
         (question.Free slot) desk.old.view steps result desk.new.view steps }
-    ensures may { (may : Read → Bool) → MayDraw W.needs desk.old.walks may →
-        MayAnswer W.needs may result desk.new.walks }
+    ensures needs { AnswerWithin W.needs no_needs result desk.old.walks desk.new.walks }
 {
     let Some(_) = desk.release(slot) else {
         return Answer::Free;

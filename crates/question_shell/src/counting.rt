@@ -1,6 +1,6 @@
 ghost use Rattle.std.specs.Prelude.{◌≡◌, ◌+◌, ◌<◌, ◌^◌, ◌≤◌, IfOk, OnOk, OnErr, Ok, Some, length};
 ghost use Rattle.step_count.specs.Reads.{ReadsWithin};
-ghost use Rattle.question_shell.specs.Desk.{MayDraw, NeedsNoMore, budget_of, held_of};
+ghost use Rattle.question_shell.specs.Desk.{NeedsAtMost, NeedsNoMore, budget_of, held_of, slot_needs};
 ghost use Rattle.question_shell.specs.Drawing.{IsOfDesk, desk_left, items_left, needs_left};
 ghost use Rattle.question_shell.specs.Drawing.{reads_left};
 ghost use Rattle.question_shell.specs.Grammar.{AreAsked};
@@ -26,8 +26,8 @@ pub fn count_found<A: Meets, L: Reads>(
     steps: &mut Steps<L>,
 ) -> Result<u64, Memory>
     requires asked { AreAsked question }
-    requires may { ReadsWithin (question_needs (A.needs answerer) question) L.may }
-    requires held { MayDraw A.Walk.needs desk.old.walks L.may }
+    requires may { ReadsWithin (question_needs (A.needs answerer)
+        (slot_needs A.Walk.needs desk.old.walks) question) L.may }
     ensures ok { IfOk result (λ count. count ≡ length
         (items_of (A.chart answerer) (A.facts answerer) (held_of desk.old.view) question)) }
     ensures desk { OnOk result (
@@ -35,7 +35,8 @@ pub fn count_found<A: Meets, L: Reads>(
     ensures untouched { OnErr result (desk.new ≡ desk.old) }
     ensures cost { steps.new + budget_of desk.new.view ≤ steps.old + budget_of desk.old.view
         + asked_cost (A.cost answerer) (held_of desk.old.view) (Ok (Some question)) }
-    ensures held { MayDraw A.Walk.needs desk.new.walks L.may }
+    ensures held { NeedsAtMost A.Walk.needs desk.old.walks (question_needs (A.needs answerer)
+        (slot_needs A.Walk.needs desk.old.walks) question) desk.new.walks }
 {
     let mut answer = ask(alloc, answerer, &question, desk, steps)?;
     Ok(count_left(&mut answer, desk, steps))

@@ -2,7 +2,7 @@ ghost use Rattle.std.specs.Prelude.{◌≡◌, ◌≢◌, ℕ, ◌≤◌, [], Li
 ghost use Rattle.step_count.specs.Reads.{AllMay, ReadsWithin};
 ghost use Rattle.host_ports.specs.Faults.{Rose};
 ghost use Rattle.host_ports.specs.Counting.{SinkCounts};
-ghost use Rattle.question_shell.specs.Desk.{MayDraw};
+ghost use Rattle.question_shell.specs.Desk.{NeedsAtMost, slot_needs};
 ghost use Rattle.question_shell.specs.Grammar.{question_of};
 ghost use Rattle.question_shell.specs.LineKept.{kept_of};
 ghost use Rattle.question_shell.specs.Lines.{input_lines};
@@ -106,15 +106,17 @@ fn take_line<A: Meets, K: Sink, L: Reads>(
     steps: &mut Steps<L>,
 ) -> Result<(), TurnFault>
     requires may { (line : List ℕ) → talk.old.line ≡ kept_of line →
-        ReadsWithin (asked_needs (A.needs answerer) (question_of line)) L.may }
-    requires held { MayDraw A.Walk.needs desk.old.walks L.may }
+        ReadsWithin (asked_needs (A.needs answerer) (slot_needs A.Walk.needs desk.old.walks)
+        (question_of line)) L.may }
     ensures told { (line : List ℕ) → talk.old.line ≡ kept_of line →
         AnswerTold (meaning_by A.Answerer answerer)
         (moment (K.said sink.old) talk.old.text desk.old.view steps.old)
         (moment (K.said sink.new) talk.new.text desk.new.view steps.new) (question_of line) result }
     ensures line { talk.new.line ≡ kept_of [] }
     ensures faults { SinkCounts K.Sink sink.old sink.new (result ≡ Err fault.Say) }
-    ensures held { MayDraw A.Walk.needs desk.new.walks L.may }
+    ensures held { (line : List ℕ) → talk.old.line ≡ kept_of line →
+        NeedsAtMost A.Walk.needs desk.old.walks (asked_needs (A.needs answerer)
+        (slot_needs A.Walk.needs desk.old.walks) (question_of line)) desk.new.walks }
 {
     let read = talk.line.read(&mut talk.question);
     talk.line.clear();

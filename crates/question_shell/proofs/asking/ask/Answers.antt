@@ -2,6 +2,7 @@ use Rattle.std.proofs.Common.{◌≡◌, ◌<◌, refl, Result, Ok, Err}
 use Rattle.std.specs.Prelude.{OnErr}
 use Rattle.track_types.specs.Near.{IsAsked}
 use Rattle.track_types.specs.declared.question.Question.TheVariants as question
+use Rattle.question_shell.specs.Desk.{slot_needs}
 use Rattle.question_shell.proofs.CountLemmas.{asked_kept}
 use Rattle.question_shell.proofs.asking.ask.Goals as goal
 
@@ -25,6 +26,9 @@ returns-in-Free-clause-ok g c =
     let asked : c.args.question.now ≡ question.Free arm.slot = arm.is in
     rw asked (c.free.ensures.value _ c.args.steps.now)
 
+pub ask_chart-requires-clause-may : goal.ask_chart-requires-clause-may
+ask_chart-requires-clause-may g c = (slot_needs g.A.Walk.Lazy.needs c.args.desk.now.walks, c.requires.may)
+
 -- the desk is not touched
 same : {T E D : Type 0} (result : Result T E) (desk : D) → OnErr result (desk ≡ desk)
 same (Ok value) desk = tt
@@ -36,5 +40,5 @@ returns-in_default g c = record {
   takes = c.ask_chart.ensures.takes c.args.desk.now.view;
   desk = same c.ask_chart.result c.args.desk.now;
   reads = c.ask_chart.ensures.reads c.args.desk.now.view;
-  may = c.ask_chart.ensures.may c.args.desk.now.walks c.requires.held;
+  needs = c.ask_chart.ensures.needs c.args.desk.now.walks;
 }

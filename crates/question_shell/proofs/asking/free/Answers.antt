@@ -1,5 +1,6 @@
 use Rattle.std.proofs.Common.{None, sym}
-use Rattle.question_shell.proofs.DeskLemmas.{may-set, within-none}
+use Rattle.question_shell.specs.Desk.{no_needs}
+use Rattle.question_shell.proofs.DeskLemmas.{at-most-set, within-none}
 use Rattle.question_shell.proofs.DrawingLemmas.{answer-empty, answer-freed}
 use Rattle.question_shell.proofs.asking.free.Goals as goal
 
@@ -8,18 +9,18 @@ returns-in_default-clause-value g c meaning steps =
     answer-empty g.W.Lazy.left g.W.Lazy.budget meaning c.args.desk.now.view c.args.slot steps c.release.new.self.view
     (sym c.in_default.ensures.walk) c.in_default.ensures.emptied
 
-pub returns-in_default-clause-may : goal.returns-in_default-clause-may
-returns-in_default-clause-may g c may held = record {
-  own = within-none may;
-  held = may-set g.W.Lazy.needs may c.args.desk.now.walks c.release.new.self.walks c.args.slot None
-      c.in_default.ensures.walks held (within-none may);
+pub returns-in_default-clause-needs : goal.returns-in_default-clause-needs
+returns-in_default-clause-needs g c = record {
+  own = within-none no_needs;
+  held = at-most-set g.W.Lazy.needs no_needs c.args.desk.now.walks c.release.new.self.walks c.args.slot None
+      c.in_default.ensures.walks (within-none no_needs);
 }
 
-pub returns-clause-may : goal.returns-clause-may
-returns-clause-may g c may held = record {
-  own = within-none may;
-  held = may-set g.W.Lazy.needs may c.args.desk.now.walks c.release.new.self.walks c.args.slot None
-      c.in-Some.ensures.walks held (within-none may);
+pub returns-clause-needs : goal.returns-clause-needs
+returns-clause-needs g c = record {
+  own = within-none no_needs;
+  held = at-most-set g.W.Lazy.needs no_needs c.args.desk.now.walks c.release.new.self.walks c.args.slot None
+      c.in-Some.ensures.walks (within-none no_needs);
 }
 
 pub returns-clause-value : goal.returns-clause-value

@@ -1,8 +1,9 @@
 use Rattle.std.proofs.lemmas.Grind.{common_steps}
 use Rattle.std.proofs.Common.{Some, ◌<◌, arith, length}
+use Rattle.track_types.specs.declared.question.Question.TheVariants as question
 use Rattle.question_shell.specs.Session.{meaning_by}
 use Rattle.question_shell.proofs.CountLemmas.{asked_kept}
-use Rattle.question_shell.proofs.DeskLemmas.{may-set, within-none}
+use Rattle.question_shell.proofs.DeskLemmas.{at-most-set, within-none}
 use Rattle.question_shell.proofs.DrawingLemmas.{answer-hold}
 use Rattle.question_shell.proofs.asking.hold.Goals as goal
 
@@ -17,15 +18,15 @@ returns-clause-ok g c steps =
     (simp (asked_kept c.args.from near.1, asked_kept c.args.to near.2) at c.in_ok-walk.ensures.left)
     (simp (asked_kept c.args.from near.1, asked_kept c.args.to near.2) at c.in_ok-walk.ensures.budget)
 
-pub returns-clause-may : goal.returns-clause-may
-returns-clause-may g c may within held =
+pub returns-clause-needs : goal.returns-clause-needs
+returns-clause-needs g c =
     let near = c.requires in
-    let walk = c.in_ok-walk.walk in
-    let needs = simp (asked_kept c.args.from near.1, asked_kept c.args.to near.2) at c.in_ok-walk.ensures.needs in
+    let these = g.A.Answerer.needs c.args.answerer (question.Path c.args.object c.args.from c.args.to) in
     record {
-      own = within-none may;
-      held = may-set g.A.Walk.Lazy.needs may c.args.desk.now.walks c.hold.new.self.walks c.args.slot (Some walk)
-          c.hold.ensures.walks held (λ read is. within read (needs read is));
+      own = within-none these;
+      held = at-most-set g.A.Walk.Lazy.needs these c.args.desk.now.walks c.hold.new.self.walks c.args.slot
+          (Some c.in_ok-walk.walk) c.hold.ensures.walks
+          (simp (asked_kept c.args.from near.1, asked_kept c.args.to near.2) at c.in_ok-walk.ensures.needs);
     }
 
 pub returns-in_err-walk-clause-takes : goal.returns-in_err-walk-clause-takes
