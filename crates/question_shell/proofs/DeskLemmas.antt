@@ -127,7 +127,7 @@ within-none may read none = absurd (cc none)
 
 module _ {W : Type 0} (needs : W → Read → Bool) where
   -- what is needed where a place was given another walk, or none
-  needs-set : (these : Read → Bool) (walks : List (Option W)) (slot : ℕ) (place : Option W) →
+  pub needs-set : (these : Read → Bool) (walks : List (Option W)) (slot : ℕ) (place : Option W) →
       ReadsWithin (option_map_or needs place no_needs) these → NeedsAtMost needs walks these (set walks slot place)
   needs-set these [] slot place own other read is = inl is
   needs-set these (first ∷ walks) zero place own zero read is = inr (own read is)
@@ -135,12 +135,6 @@ module _ {W : Type 0} (needs : W → Read → Bool) where
   needs-set these (first ∷ walks) (suc slot) place own zero read is = inl is
   needs-set these (first ∷ walks) (suc slot) place own (suc other) read is =
       needs-set these walks slot place own other read is
-
-  -- the same of a desk that is so now
-  pub at-most-set : (these : Read → Bool) (walks now : List (Option W)) (slot : ℕ) (place : Option W) →
-      now ≡ set walks slot place → ReadsWithin (option_map_or needs place no_needs) these →
-      NeedsAtMost needs walks these now
-  at-most-set these walks now slot place is own = rw is (needs-set these walks slot place own)
 
   -- what is needed where the walk in a place was drawn from
   pub needs-drawn : (walks : List (Option W)) (slot : ℕ) (old new : W) (default : Option W) →

@@ -1,6 +1,6 @@
 use Rattle.std.proofs.Common.{None, sym}
 use Rattle.question_shell.specs.Desk.{no_needs}
-use Rattle.question_shell.proofs.DeskLemmas.{at-most-set, within-none}
+use Rattle.question_shell.proofs.DeskLemmas.{needs-set, within-none}
 use Rattle.question_shell.proofs.DrawingLemmas.{answer-empty, answer-freed}
 use Rattle.question_shell.proofs.asking.free.Goals as goal
 
@@ -12,15 +12,15 @@ returns-in_default-clause-value g c meaning steps =
 pub returns-in_default-clause-needs : goal.returns-in_default-clause-needs
 returns-in_default-clause-needs g c = record {
   own = within-none no_needs;
-  held = at-most-set g.W.Lazy.needs no_needs c.args.desk.now.walks c.release.new.self.walks c.args.slot None
-      c.in_default.ensures.walks (within-none no_needs);
+  held = rw c.in_default.ensures.walks
+      (needs-set g.W.Lazy.needs no_needs c.args.desk.now.walks c.args.slot None (within-none no_needs));
 }
 
 pub returns-clause-needs : goal.returns-clause-needs
 returns-clause-needs g c = record {
   own = within-none no_needs;
-  held = at-most-set g.W.Lazy.needs no_needs c.args.desk.now.walks c.release.new.self.walks c.args.slot None
-      c.in-Some.ensures.walks (within-none no_needs);
+  held = rw c.in-Some.ensures.walks
+      (needs-set g.W.Lazy.needs no_needs c.args.desk.now.walks c.args.slot None (within-none no_needs));
 }
 
 pub returns-clause-value : goal.returns-clause-value

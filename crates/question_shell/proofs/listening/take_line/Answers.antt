@@ -1,4 +1,4 @@
-use Rattle.std.proofs.Common.{◌≡◌, refl, sym, arith, inl, Ok, None, Some}
+use Rattle.std.proofs.Common.{◌≡◌, refl, sym, arith, Ok, None, Some}
 use Rattle.question_shell.specs.Desk.{held_of}
 use Rattle.question_shell.specs.Grammar.{question_of}
 use Rattle.question_shell.specs.LineKept.{kept_of}
@@ -15,10 +15,6 @@ returns-in-Ok-false-clause-told g c line is_kept =
       desk = refl {a = held_of c.args.desk.now.view};
       reads = omega arith;
     })
-
--- the desk is as it was
-pub returns-in-Ok-false-clause-held : goal.returns-in-Ok-false-clause-held
-returns-in-Ok-false-clause-held g c line is_kept slot read is = inl is
 
 pub answer_question-requires-clause-may : goal.answer_question-requires-clause-may
 answer_question-requires-clause-may g c =
