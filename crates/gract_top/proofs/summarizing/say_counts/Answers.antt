@@ -44,8 +44,11 @@ read g c =
     (speech (g.K.Sink.said c.args.sink.now) (c.args.steps.now + budget_of c.args.desk.now.view))
     (speech (g.K.Sink.said c.loop-question.sink) (c.loop-question.steps + budget_of c.loop-question.desk.view)) _
     c.loop-question.invariant.counting turn.more
-    (omega (arith, c.count_found.ensures.cost,
-    counted-cost cost (held_of c.loop-question.desk.view) asked turn.counted))
+    (omega (
+      arith,
+      c.count_found.ensures.cost,
+      counted-cost cost (held_of c.loop-question.desk.view) asked turn.counted,
+    ))
 
 pub returns-in_default-clause-cost : goal.returns-in_default-clause-cost
 returns-in_default-clause-cost g c = read g (goal.at.returns-in_default-clause-cost g c).After-count_found
