@@ -8,8 +8,8 @@ use Rattle.std.proofs.lemmas.List.{get_or-map, get_or-set_same, length-map, map-
 use Rattle.std.proofs.lemmas.List.Sums.{sum_by-set}
 use Rattle.step_count.specs.Reads.{Read, ReadsWithin}
 use Rattle.track_types.specs.declared.stop.Stop.{Stop}
-use Rattle.question_shell.specs.Desk.{DeskView, Draws, NeedsAtMost, NeedsNoMore, budget_in, budget_of, held_of, is_held_in}
-use Rattle.question_shell.specs.Desk.{no_needs, slot_walk, slot_stops}
+use Rattle.question_shell.specs.Desk.{DeskView, Draws, NeedsAtMost, NeedsNoMore, budget_in, budget_of, held_of}
+use Rattle.question_shell.specs.Desk.{is_held_in, no_needs, slot_walk, slot_stops}
 use Rattle.question_shell.specs.Items.{stops_at}
 
 -- a desk by its places, of which each shows what is seen of its walk

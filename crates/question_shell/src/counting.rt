@@ -1,6 +1,7 @@
 ghost use Rattle.std.specs.Prelude.{◌≡◌, ◌+◌, ◌<◌, ◌^◌, ◌≤◌, IfOk, OnOk, OnErr, Ok, Some, length};
 ghost use Rattle.step_count.specs.Reads.{ReadsWithin};
-ghost use Rattle.question_shell.specs.Desk.{NeedsAtMost, NeedsNoMore, budget_of, held_of, slot_needs};
+ghost use Rattle.question_shell.specs.Desk.{NeedsAtMost, NeedsNoMore, budget_of, held_of};
+ghost use Rattle.question_shell.specs.Desk.{slot_needs};
 ghost use Rattle.question_shell.specs.Drawing.{IsOfDesk, desk_left, items_left, needs_left};
 ghost use Rattle.question_shell.specs.Drawing.{reads_left};
 ghost use Rattle.question_shell.specs.Grammar.{AreAsked};
