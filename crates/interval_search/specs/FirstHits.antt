@@ -1,5 +1,6 @@
 -- The first hit of each object, and what a search for them has done.
-use Rattle.std.specs.Prelude.{◌≡◌, ℕ, ◌<◌, ◌==◌, ℤ, Bool, true, false, List, All, filter, length, slice_index, slice_index_or}
+use Rattle.std.specs.Prelude.{◌≡◌, ℕ, ◌<◌, ◌==◌, ℤ, Bool, true, false, List, All, filter, length, slice_index}
+use Rattle.std.specs.Prelude.{slice_index_or}
 use Rattle.std.specs.Prelude.{slice_set, Option, None, Some}
 use Rattle.std.specs.List.{filter_map, flat_map, list_any, range_with_len, sum_by}
 use Rattle.std.specs.Option.{option_map}

@@ -40,8 +40,8 @@ impl FirstHits {
         })
     }
 
-    /// Takes the first hits that the blocks of a walk have. It skips the objects that are known: they
-    /// have an earlier hit, and their logs are not opened. The stack serves one log after the other.
+    /// Takes the first hits that the blocks of a walk have. It skips the objects that are known:
+    /// they have an earlier hit, and their logs are not opened. One stack serves all the logs.
     pub fn look<'a, W: Lazy<Item = Anchored>, L: Reads>(
         &mut self,
         pending: &mut Pending<'a>,

@@ -21,9 +21,9 @@ use track_types::{Hit, Memory};
 /// first such instant and its cell there, by object.
 ///
 /// The instants and the region's coordinates are at most 2^41 away from 0, and its radius is at most
-/// 2^42. `Memory` is the only refusal: memory is taken for the answer, for a bool for each object, and
-/// once, where the grammar is deep, for the parts of opened rules.
-/// Where the region has no cell of the grid, no period is gone through.
+/// 2^42. `Memory` is the only refusal: memory is taken for the answer, for a bool for each object,
+/// and once, where the grammar is deep, for the parts of opened rules. Where the region has no cell
+/// of the grid, no period is gone through.
 pub fn interval<'a, L: Reads>(
     alloc: Global,
     stores: &'a Stores,

@@ -58,8 +58,8 @@ pub fn first_hit<L: Reads>(
     Ok(first_hit_with(&mut pending, view, start, from, to, test, steps))
 }
 
-/// The same, with a stack of the caller's, which serves one block of the same rules after the other.
-/// What was left in it of the block before is gone. It takes no memory.
+/// The same, on a stack that the caller lends, of the same rules. What it holds of an earlier block
+/// changes nothing, so that it serves one block after another. No memory is taken.
 pub fn first_hit_with<'a, L: Reads>(
     pending: &mut Pending<'a>,
     view: LogView<'a>,

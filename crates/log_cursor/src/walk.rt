@@ -24,8 +24,9 @@ use track_types::{Cell, Lazy, Memory, Stop};
 /// throughout. It keeps the parts of rules that are still to come; `new` takes all the memory for
 /// these.
 ///
-/// Contracts see the rules, where the symbols of the log stand, the stops that are left, and a bound
-/// on the reads that are still to be made: for all these stops, and for those up to an instant.
+/// Contracts see the rules, where the symbols of the log stand, the stops that are left, and a
+/// bound on the reads that are still to be made: for all these stops, and for those up to an
+/// instant.
 #[derive(Drop)]
 pub struct BlockWalk<'a> {
     pending: Pending<'a>,

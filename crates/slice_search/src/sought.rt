@@ -63,8 +63,8 @@ impl<'a> Sought<'a> {
         self.stores.tracks(self.period, reach)
     }
 
-    /// The first stop of a block in the window and the region. The stack is of the stores' rules, and
-    /// serves one block after the other. It takes no memory.
+    /// The first stop of a block in the window and the region. The stack is the caller's, of the
+    /// stores' rules, and serves one block after another. No memory is taken.
     pub fn first_stop<L: Reads>(
         &self,
         block: &Anchored,

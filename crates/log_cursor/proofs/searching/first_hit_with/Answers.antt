@@ -4,11 +4,13 @@ use Rattle.rule_store.specs.Flaws.{AreRules}
 use Rattle.rule_store.specs.Log.{in_window, log_of, stop_at}
 use Rattle.log_cursor.specs.Touching.{first_among}
 use Rattle.log_cursor.proofs.StopLemmas.{word}
-use Rattle.log_cursor.proofs.SearchLemmas.{first_hit_of-anchor, first_hit_of-empty, first_hit_of-later, first_hit_of-over}
+use Rattle.log_cursor.proofs.SearchLemmas.{first_hit_of-anchor, first_hit_of-empty, first_hit_of-later}
+use Rattle.log_cursor.proofs.SearchLemmas.{first_hit_of-over}
 use Rattle.log_cursor.proofs.WayLemmas.{IsWayOf-placed, length-log_of}
 use Rattle.log_cursor.proofs.searching.first_hit_with.Given.{Over}
 use Rattle.log_cursor.proofs.searching.first_hit_with.Goals as goal
-use Rattle.log_cursor.proofs.searching.first_hit_with.Goals.{After-anchor_hit-anchor, then-is_some-via-then-is_some, then-is_some-via-else-is_some+then-to-start}
+use Rattle.log_cursor.proofs.searching.first_hit_with.Goals.{After-anchor_hit-anchor, then-is_some-via-then-is_some}
+use Rattle.log_cursor.proofs.searching.first_hit_with.Goals.{then-is_some-via-else-is_some+then-to-start}
 
 pub returns-then-to-from-clause-value : goal.returns-then-to-from-clause-value
 returns-then-to-from-clause-value g c =
@@ -48,7 +50,8 @@ hit_after-requires g c =
     let same : now.rules ≡ rules = c.begin.ensures.rules ∙ sym c.requires.rules in
     let sound : AreRules rules = subst AreRules same c.begin.ensures.sound in
     let way = IsWayOf-placed rules c.args.start log sound (length-log_of c.args.view sound) c.requires.placed in
-    rw (same, c.begin.ensures.symbols, c.begin.ensures.places) (record { way = way; window = omega (arith, ints, c.if-to-from.false); may = c.requires.may })
+    rw (same, c.begin.ensures.symbols, c.begin.ensures.places)
+    (record { way = way; window = omega (arith, ints, c.if-to-from.false); may = c.requires.may })
 
 pub returns-clause-value : goal.returns-clause-value
 returns-clause-value g c =
