@@ -1,16 +1,20 @@
 -- Places of the desk.
 use Rattle.std.proofs.Common.{◌≡◌, ℕ, ◌+◌, ◌<◌, zero, suc, ◌≤◌, List, [], ◌∷◌, ◌++◌, length, map, set, get_or, sym}
-use Rattle.std.proofs.Common.{refl, ap, ◌∙◌, arith, inl, inr, Bool}
-use Rattle.std.specs.Prelude.{Option, Some, None, is_some, option_map}
+use Rattle.std.proofs.Common.{refl, ap, ◌∙◌, arith, inl, inr, Bool, true, false, ◌||◌, Ok}
+use Rattle.std.specs.Prelude.{◌==◌, ◌⊎◌, ◌&&◌, if◌then◌else◌, IsTrue, Option, Some, None, is_some, option_map}
 use Rattle.std.specs.Option.{option_map_or}
-use Rattle.std.proofs.lemmas.Bool.{cases_lt}
+use Rattle.std.proofs.lemmas.Bool.{cases_eq, cases_lt, eq-eqb, ne_eqb}
 use Rattle.std.proofs.lemmas.List.{get_or-map, get_or-set_same, length-map, map-set, set-get_or}
 use Rattle.std.proofs.lemmas.List.Sums.{sum_by-set}
 use Rattle.step_count.specs.Reads.{Read, ReadsWithin}
+use Rattle.track_types.specs.declared.question.Question.{Question}
+use Rattle.track_types.specs.declared.question.Question.TheVariants as question
 use Rattle.track_types.specs.declared.stop.Stop.{Stop}
-use Rattle.question_shell.specs.Desk.{DeskView, Draws, NeedsAtMost, NeedsNoMore, budget_in, budget_of, held_of}
-use Rattle.question_shell.specs.Desk.{is_held_in, no_needs, slot_walk, slot_stops}
+use Rattle.question_shell.specs.Desk.{DeskView, Draws, NeedsNoMore, NeedsWithin, budget_in, budget_of, held_of}
+use Rattle.question_shell.specs.Desk.{is_held_in, no_needs, slot_needs, slot_stops, slot_walk}
 use Rattle.question_shell.specs.Items.{stops_at}
+use Rattle.question_shell.specs.Needs.{needs_after}
+use Rattle.question_shell.specs.Session.{takes_memory}
 
 -- a desk by its places, of which each shows what is seen of its walk
 module _ {W : Type 0} (seen : W → List Stop × ℕ) (places : List (Option W)) (desk : DeskView) (slot : ℕ)
@@ -125,16 +129,78 @@ module _ (before between : DeskView) (slot start here : ℕ) (draws : Draws befo
 pub within-none : (may : Read → Bool) → ReadsWithin no_needs may
 within-none may read none = absurd (cc none)
 
+-- one of two
+either-left : (one other : Bool) → IsTrue one → IsTrue (one || other)
+either-left true other is = refl
+either-left false other is = absurd (cc is)
+
+either-right : (one other : Bool) → IsTrue other → IsTrue (one || other)
+either-right true other is = refl
+either-right false other is = is
+
 module _ {W : Type 0} (needs : W → Read → Bool) where
   -- what is needed where a place was given another walk, or none
-  pub needs-set : (these : Read → Bool) (walks : List (Option W)) (slot : ℕ) (place : Option W) →
-      ReadsWithin (option_map_or needs place no_needs) these → NeedsAtMost needs walks these (set walks slot place)
-  needs-set these [] slot place own other read is = inl is
-  needs-set these (first ∷ walks) zero place own zero read is = inr (own read is)
-  needs-set these (first ∷ walks) zero place own (suc other) read is = inl is
-  needs-set these (first ∷ walks) (suc slot) place own zero read is = inl is
-  needs-set these (first ∷ walks) (suc slot) place own (suc other) read is =
-      needs-set these walks slot place own other read is
+  needs-set : (these : Read → Bool) (walks : List (Option W)) (slot : ℕ) (held : Option W) →
+      ReadsWithin (option_map_or needs held no_needs) these → (place : ℕ) (read : Read) →
+      IsTrue (slot_needs needs (set walks slot held) place read) →
+      IsTrue (slot_needs needs walks place read) ⊎ ((slot ≡ place) × IsTrue (these read))
+  needs-set these [] slot held own place read is = inl is
+  needs-set these (first ∷ walks) zero held own zero read is = inr (refl, own read is)
+  needs-set these (first ∷ walks) zero held own (suc place) read is = inl is
+  needs-set these (first ∷ walks) (suc slot) held own zero read is = inl is
+  needs-set these (first ∷ walks) (suc slot) held own (suc place) read is =
+      elim (needs-set these walks slot held own place read is) [
+        | inl before ↦ inl before
+        | inr new ↦ inr (ap suc new.0, new.1)
+      ]
+
+  -- nothing where it was given none
+  none-set : (walks : List (Option W)) (slot : ℕ) (read : Read) →
+      IsTrue (slot_needs needs (set walks slot None) slot read) → IsTrue false
+  none-set [] slot read is = is
+  none-set (first ∷ walks) zero read is = is
+  none-set (first ∷ walks) (suc slot) read is = none-set walks slot read is
+
+  -- a walk was put into a place
+  pub needs-held : (these : Read → Bool) (walks : List (Option W)) (slot : ℕ) (walk : W) →
+      ReadsWithin (needs walk) these → NeedsWithin needs (set walks slot (Some walk))
+      (λ place read. slot_needs needs walks place read || (slot == place && these read))
+  needs-held these walks slot walk own place read is =
+      elim (needs-set these walks slot (Some walk) own place read is) [
+        | inl before ↦ either-left (slot_needs needs walks place read) (slot == place && these read) before
+        | inr new ↦ either-right (slot_needs needs walks place read) (slot == place && these read)
+          (rw (eq-eqb slot place new.0) new.1)
+      ]
+
+  -- a place was emptied
+  pub needs-emptied : (walks : List (Option W)) (slot : ℕ) → NeedsWithin needs (set walks slot None)
+      (λ place read. if slot == place then false else slot_needs needs walks place read)
+  needs-emptied walks slot place read is = elim (cases_eq slot place) [
+    | inl same ↦
+        let there : IsTrue (slot_needs needs (set walks place None) place read) = rw same at is in
+        let none : IsTrue false = none-set walks place read there in
+        absurd (cc none)
+    | inr apart ↦ elim (needs-set no_needs walks slot None (within-none no_needs) place read is) [
+      | inl before ↦ rw (ne_eqb slot place apart) before
+      | inr new ↦ absurd (apart new.0)
+    ]
+  ]
+
+  -- memory was refused: no place stands emptied
+  pub needs-refused : (asks : Question → Read → Bool) (desk : List (Option (List Stop))) (walks : List (Option W))
+      (asked : Question) → takes_memory desk (Ok (Some asked)) ≡ true →
+      NeedsWithin needs walks (needs_after asks (slot_needs needs walks) asked)
+  needs-refused asks desk walks (question.Position object instant) takes place read is = is
+  needs-refused asks desk walks (question.Path object from to) takes place read is = is
+  needs-refused asks desk walks (question.Slice instant region) takes place read is = is
+  needs-refused asks desk walks (question.Interval from to region) takes place read is = is
+  needs-refused asks desk walks (question.Nearest count instant cell) takes place read is = is
+  needs-refused asks desk walks (question.Meet left right from to reach) takes place read is = is
+  needs-refused asks desk walks (question.Hold slot object from to) takes place read is =
+      either-left (slot_needs needs walks place read) (slot == place && asks (question.Path object from to) read) is
+  needs-refused asks desk walks (question.More slot count) takes place read is = is
+  needs-refused asks desk walks (question.Free slot) takes place read is = absurd (cc takes)
+  needs-refused asks desk walks question.Info takes place read is = is
 
   -- what is needed where the walk in a place was drawn from
   pub needs-drawn : (walks : List (Option W)) (slot : ℕ) (old new : W) (default : Option W) →

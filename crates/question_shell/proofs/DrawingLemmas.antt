@@ -236,7 +236,7 @@ module _ {W : Type 0} (left : W → List Stop) (budget : W → ℕ) (meaning : M
 module _ {W : Type 0} {needs : W → Read → Bool} where
   -- no more is needed where nothing was drawn yet
   pub needs-nothing : (now : Answer W) (walks : List (Option W)) → AnswerNeeds needs now now walks walks
-  needs-nothing now walks = record { own = λ read is. is; held = λ slot read is. is }
+  needs-nothing now walks = record { own = λ read is. is; desk = λ slot read is. is }
 
   -- or more was drawn
   pub needs-more : {first between now : Answer W} {walks here after : List (Option W)} →
@@ -244,5 +244,5 @@ module _ {W : Type 0} {needs : W → Read → Bool} where
       AnswerNeeds needs first now walks after
   needs-more one two = record {
     own = λ read is. one.own read (two.own read is);
-    held = λ slot read is. one.held slot read (two.held slot read is);
+    desk = λ slot read is. one.desk slot read (two.desk slot read is);
   }

@@ -17,7 +17,7 @@ use Rattle.question_shell.specs.LineKept.{kept_of}
 use Rattle.track_types.specs.declared.shape.Shape.TheVariants as shape
 use Rattle.question_shell.specs.RegionWords.{shapes_cut, shapes_of}
 use Rattle.question_shell.specs.Lines.{input_lines, unended_line, whole_lines, words_of}
-use Rattle.question_shell.specs.Needs.{asked_needs}
+use Rattle.question_shell.specs.Needs.{asked_needs, needs_after_line}
 use Rattle.question_shell.specs.Replies.{costs_of, desk_after, replies_of}
 use Rattle.question_shell.specs.Reply.{listed}
 use Rattle.question_shell.specs.Slots.{replies_to_each, replies_to_slot}
@@ -325,14 +325,25 @@ needs_by_kind : Question → Read → Bool
 needs_by_kind (question.Path object from to) read = is_of_period object read
 needs_by_kind other read = true
 
--- A `hold` needs what its path does, a `more` what the walk in its slot does, a `slice` what the answerer says, and
--- `free`, `info` and a bad line nothing. Here slot 0 holds a walk that needs period 7.
+-- A `more` makes the reads of the walk in its slot, a `slice` what the answerer says, and `hold`, `free`, `info` and a bad
+-- line none. Here slot 0 holds a walk that needs period 7.
 needs_of_lines : map (λ line.
     asked_needs needs_by_kind (slot_needs is_of_period (Some 7 ∷ None ∷ [])) (question_of line) (ofPeriod 7))
-    (input_lines (codes "hold 15 7 0 2\nhold 15 8 0 2\nmore 0 9\nmore 1 9\nfree 0\ninfo\nwhere\nslice 0 disc 0 0 1\n"))
-    ≡ true ∷ false ∷ true ∷ false ∷ false ∷ false ∷ false ∷ true ∷ []
+    (input_lines (codes "hold 15 7 0 2\nmore 0 9\nmore 1 9\nfree 0\ninfo\nwhere\nslice 0 disc 0 0 1\n"))
+    ≡ false ∷ true ∷ false ∷ false ∷ false ∷ false ∷ true ∷ []
 unfolding needs_by_kind whole_lines unended_line
 needs_of_lines = refl
+
+-- After each of these lines, asked of the same desk, whether slots 0 and 1 need period 7: after a `hold` of its path slot 1
+-- does too, and after `free 0` slot 0 does not.
+needs_after_lines : map (λ line. map (λ slot.
+    needs_after_line needs_by_kind (slot_needs is_of_period (Some 7 ∷ None ∷ [])) (question_of line) slot (ofPeriod 7))
+    (0 ∷ 1 ∷ []))
+    (input_lines (codes "hold 1 7 0 2\nhold 1 8 0 2\nmore 0 9\nfree 0\nfree 1\nwhere\n"))
+    ≡ (true ∷ true ∷ []) ∷ (true ∷ false ∷ []) ∷ (true ∷ false ∷ []) ∷ (false ∷ false ∷ []) ∷ (true ∷ false ∷ [])
+    ∷ (true ∷ false ∷ []) ∷ []
+unfolding needs_by_kind whole_lines unended_line
+needs_after_lines = refl
 
 -- a walk in slot 0 that needs period 4, and nothing in slot 1
 needs_of_slots : map (λ slot. slot_needs is_of_period (Some 4 ∷ None ∷ []) slot (ofPeriod 4)) (0 ∷ 1 ∷ 2 ∷ [])

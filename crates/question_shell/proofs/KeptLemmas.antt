@@ -93,12 +93,12 @@ kept-short line short =
     let all : take 1024 line ≡ line = take_all 1024 line short in
     rw (none, all) (append-nil line)
 
--- what is kept is kept whole
 telling-few : (bytes : List ℕ) → length bytes ≤ 1 → telling_byte bytes ≡ bytes
 telling-few [] few = refl
 telling-few (byte ∷ []) few = refl
 telling-few (byte ∷ next ∷ rest) few = absurd (omega (arith, few))
 
+-- what is kept is kept whole
 pub kept-all : (line : List ℕ) → length line ≤ 1025 → kept_of line ≡ line
 kept-all line few =
     ap (λ rest. take 1024 line ++ rest) (telling-few (drop 1024 line) (omega (arith, few, length-drop 1024 line)))

@@ -1,6 +1,6 @@
 -- The desk: 16 places for held walks.
 use Rattle.std.specs.Prelude.{◌≡◌, ℕ, ◌+◌, ◌≤◌, Bool, List, [], map, replicate, Option, None, option_map, is_some}
-use Rattle.std.specs.Prelude.{◌⊎◌, IsTrue, false, slice_index_or, slice_set}
+use Rattle.std.specs.Prelude.{false, slice_index_or, slice_set}
 use Rattle.std.specs.Option.{option_map_or}
 use Rattle.std.specs.List.{sum_by}
 use Rattle.step_count.specs.Reads.{Read, ReadsWithin}
@@ -64,11 +64,10 @@ module _ {W : Type 0} (needs : W → Read → Bool) where
   abbrev pub slot_needs : List (Option W) → ℕ → Read → Bool
   slot_needs walks slot = option_map_or needs (slice_index_or walks slot None) no_needs
 
+  -- each place needs no reads but those that stand for it
+  abbrev pub NeedsWithin : List (Option W) → (ℕ → Read → Bool) → Type 0
+  NeedsWithin now those = (slot : ℕ) → ReadsWithin (slot_needs now slot) (those slot)
+
   -- no place needs more than it did before
   abbrev pub NeedsNoMore : List (Option W) → List (Option W) → Type 0
-  NeedsNoMore before now = (slot : ℕ) → ReadsWithin (slot_needs now slot) (slot_needs before slot)
-
-  -- no place needs more than it did before, or than these reads
-  abbrev pub NeedsAtMost : List (Option W) → (Read → Bool) → List (Option W) → Type 0
-  NeedsAtMost before these now = (slot : ℕ) (read : Read) →
-      IsTrue (slot_needs now slot read) → IsTrue (slot_needs before slot read) ⊎ IsTrue (these read)
+  NeedsNoMore before now = NeedsWithin now (slot_needs before)

@@ -4,7 +4,7 @@ use Rattle.std.specs.Prelude.{Bool, option_map, option_to_list, slice_set}
 use Rattle.step_count.specs.Reads.{Read, ReadsWithin}
 use Rattle.track_types.specs.declared.question.Question.{Question}
 use Rattle.track_types.specs.declared.stop.Stop.{Stop}
-use Rattle.question_shell.specs.Desk.{DeskView, NeedsAtMost, NeedsNoMore, budget_of, held_of, no_needs, slot_needs}
+use Rattle.question_shell.specs.Desk.{DeskView, NeedsNoMore, NeedsWithin, budget_of, held_of, no_needs, slot_needs}
 use Rattle.question_shell.specs.Desk.{slot_stops}
 use Rattle.question_shell.specs.Items.{items_of, stops_at}
 use Rattle.question_shell.specs.Reply.{asked_cost, desk_of, free_line, held_line, refusal_of}
@@ -83,10 +83,11 @@ module _ {W : Type 0} (needs : W → Read → Bool) where
   -- From one moment to a later one neither an answer nor a walk on the desk needs more than before.
   pub record AnswerNeeds (before now : Answer W) (walks after : List (Option W)) : Type 0 where
     pub own : ReadsWithin (needs_left now after) (needs_left before walks)
-    pub held : NeedsNoMore needs walks after
+    pub desk : NeedsNoMore needs walks after
 
-  -- After a question that needs these reads its answer needs no others, and no place of the desk needs more than it did
-  -- before, or than these.
-  pub record AnswerWithin (these : Read → Bool) (answer : Answer W) (before now : List (Option W)) : Type 0 where
-    pub own : ReadsWithin (needs_left answer now) these
-    pub held : NeedsAtMost needs before these now
+  -- After a question whose answer makes these reads, and after which each place of the desk needs those, the answer needs
+  -- no others, and nor does a place.
+  pub record AnswerWithin (these : Read → Bool) (those : ℕ → Read → Bool) (answer : Answer W) (walks : List (Option W))
+      : Type 0 where
+    pub own : ReadsWithin (needs_left answer walks) these
+    pub desk : NeedsWithin needs walks those

@@ -2,9 +2,9 @@ ghost use Rattle.std.specs.Prelude.{◌≡◌, ◌≢◌, ◌≤◌, [], Some, O
 ghost use Rattle.step_count.specs.Reads.{ReadsWithin};
 ghost use Rattle.host_ports.specs.Faults.{Rose};
 ghost use Rattle.host_ports.specs.Counting.{SinkCounts};
-ghost use Rattle.question_shell.specs.Desk.{NeedsAtMost, slot_needs};
+ghost use Rattle.question_shell.specs.Desk.{NeedsWithin, slot_needs};
 ghost use Rattle.question_shell.specs.Grammar.{AreAsked};
-ghost use Rattle.question_shell.specs.Needs.{question_needs};
+ghost use Rattle.question_shell.specs.Needs.{needs_after, question_needs};
 ghost use Rattle.question_shell.specs.Session.{meaning_by};
 ghost use Rattle.question_shell.specs.Turns.{AnswerTold, moment};
 ghost use Rattle.question_shell.specs.declared.turn_fault.TurnFault.TheVariants as fault;
@@ -41,8 +41,8 @@ pub fn say_reply<A: Meets, K: Sink, L: Reads>(
     ensures cause { result ≡ Err fault.Say → Rose (K.faults sink.old) (K.faults sink.new) }
     ensures untouched { result ≢ Err fault.Say → K.faults sink.new ≡ K.faults sink.old }
     ensures faults { K.faults sink.old ≤ K.faults sink.new }
-    ensures held { NeedsAtMost A.Walk.needs desk.old.walks (question_needs (A.needs answerer)
-        (slot_needs A.Walk.needs desk.old.walks) question) desk.new.walks }
+    ensures needs { NeedsWithin A.Walk.needs desk.new.walks (needs_after (A.needs answerer)
+        (slot_needs A.Walk.needs desk.old.walks) question) }
 {
     let mut text = HeldText::new();
     answer_question(alloc, answerer, &question, desk, &mut text, sink, steps)?;
@@ -67,8 +67,8 @@ pub(crate) fn answer_question<A: Meets, K: Sink, L: Reads>(
         (moment (K.said sink.new) text.new desk.new.view steps.new)
         (Ok (Some question.now)) result }
     ensures faults { SinkCounts K.Sink sink.old sink.new (result ≡ Err fault.Say) }
-    ensures held { NeedsAtMost A.Walk.needs desk.old.walks (question_needs (A.needs answerer)
-        (slot_needs A.Walk.needs desk.old.walks) question.now) desk.new.walks }
+    ensures needs { NeedsWithin A.Walk.needs desk.new.walks (needs_after (A.needs answerer)
+        (slot_needs A.Walk.needs desk.old.walks) question.now) }
 {
     let mut answer = ask(alloc, answerer, question, desk, steps)?;
     Ok(say_answer(&mut answer, desk, text, sink, steps)?)

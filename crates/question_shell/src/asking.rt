@@ -2,11 +2,12 @@ ghost use Rattle.std.specs.Prelude.{◌≡◌, ℕ, ◌+◌, ◌<◌, ◌≤◌,
 ghost use Rattle.std.specs.Prelude.{Bool, List, Option};
 ghost use Rattle.step_count.specs.Reads.{Read, ReadsWithin};
 ghost use Rattle.std.specs.Prelude.{map, option_to_list};
+ghost use Rattle.track_types.specs.declared.question.Question.{Question};
 ghost use Rattle.track_types.specs.declared.question.Question.TheVariants as question;
 ghost use Rattle.question_shell.specs.Desk.{DeskView, held_of, no_needs, slot_needs};
 ghost use Rattle.question_shell.specs.Drawing.{AnswerWithin, IsAnswer};
 ghost use Rattle.question_shell.specs.Grammar.{AreAsked};
-ghost use Rattle.question_shell.specs.Needs.{question_needs};
+ghost use Rattle.question_shell.specs.Needs.{needs_after, question_needs};
 ghost use Rattle.question_shell.specs.Reply.{asked_cost};
 ghost use Rattle.question_shell.specs.Session.{Meaning, meaning_by, takes_memory};
 ghost use Rattle.question_shell.specs.SlotParts.{OfNoSlot, slot_part};
@@ -43,7 +44,8 @@ pub(crate) fn ask<A: Meets, L: Reads>(
         + asked_cost (A.cost answerer) (held_of desk.old.view) (Ok (Some question.now))) }
     ensures needs { IfOk result (λ answer. AnswerWithin A.Walk.needs
         (question_needs (A.needs answerer) (slot_needs A.Walk.needs desk.old.walks) question.now)
-        answer desk.old.walks desk.new.walks) }
+        (needs_after (A.needs answerer) (slot_needs A.Walk.needs desk.old.walks) question.now)
+        answer desk.new.walks) }
 {
     match question {
         Question::Hold {
@@ -78,8 +80,10 @@ fn ask_chart<A: Meets, L: Reads>(
     ensures reads { (desk : DeskView) → OnErr result (steps.new
         ≤ steps.old + asked_cost (A.cost answerer) (held_of desk) (Ok (Some question.now))) }
     ensures needs { (walks : List (Option A.Walk)) → IfOk result (λ answer.
-        AnswerWithin A.Walk.needs (question_needs (A.needs answerer)
-        (slot_needs A.Walk.needs walks) question.now) answer walks walks) }
+        AnswerWithin A.Walk.needs
+        (question_needs (A.needs answerer) (slot_needs A.Walk.needs walks) question.now)
+        (needs_after (A.needs answerer) (slot_needs A.Walk.needs walks) question.now)
+        answer walks) }
 {
     // The rows of an answerer ascend, so that a count of stops fits.
     let facts = answerer.facts();
@@ -154,9 +158,9 @@ fn hold<A: Meets>(
     ensures takes { OnErr result (takes_memory (held_of desk.old.view)
         (Ok (Some (question.Hold slot object from to))) ≡ true) }
     ensures desk { OnErr result (desk.new ≡ desk.old) }
-    ensures needs { IfOk result (λ answer. AnswerWithin A.Walk.needs
-        (A.needs answerer (question.Path object from to))
-        answer desk.old.walks desk.new.walks) }
+    ensures needs { IfOk result (λ answer. AnswerWithin A.Walk.needs no_needs
+        (needs_after (A.needs answerer) (slot_needs A.Walk.needs desk.old.walks)
+        (question.Hold slot object from to)) answer desk.new.walks) }
 {
     if desk.is_held(slot) {
         return Ok(Answer::Held);
@@ -172,7 +176,7 @@ fn more<W: Lazy<Item = Stop> + Drop>(desk: &Desk<W>, slot: u8, count: u32) -> An
     ensures value { (meaning : Meaning) → (steps : ℕ) → IsAnswer W.left W.budget meaning
         (question.More slot count) desk.now.view steps result desk.now.view steps }
     ensures needs { AnswerWithin W.needs (slot_needs W.needs desk.now.walks slot)
-        result desk.now.walks desk.now.walks }
+        (slot_needs W.needs desk.now.walks) result desk.now.walks }
 {
     if desk.is_held(slot) {
         Answer::More { slot, count }
@@ -186,7 +190,9 @@ fn free<W: Lazy<Item = Stop> + Drop>(desk: &mut Desk<W>, slot: u8) -> Answer<W>
     requires { slot < 16 }
     ensures value { (meaning : Meaning) → (steps : ℕ) → IsAnswer W.left W.budget meaning
         (question.Free slot) desk.old.view steps result desk.new.view steps }
-    ensures needs { AnswerWithin W.needs no_needs result desk.old.walks desk.new.walks }
+    ensures needs { (needs : Question → Read → Bool) → AnswerWithin W.needs no_needs
+        (needs_after needs (slot_needs W.needs desk.old.walks) (question.Free slot))
+        result desk.new.walks }
 {
     let Some(_) = desk.release(slot) else {
         return Answer::Free;

@@ -1,12 +1,12 @@
 ghost use Rattle.std.specs.Prelude.{◌≡◌, ◌+◌, ◌<◌, ◌^◌, ◌≤◌, IfOk, OnOk, OnErr, Ok, Some, length};
 ghost use Rattle.step_count.specs.Reads.{ReadsWithin};
-ghost use Rattle.question_shell.specs.Desk.{NeedsAtMost, NeedsNoMore, budget_of, held_of};
+ghost use Rattle.question_shell.specs.Desk.{NeedsNoMore, NeedsWithin, budget_of, held_of};
 ghost use Rattle.question_shell.specs.Desk.{slot_needs};
 ghost use Rattle.question_shell.specs.Drawing.{IsOfDesk, desk_left, items_left, needs_left};
 ghost use Rattle.question_shell.specs.Drawing.{reads_left};
 ghost use Rattle.question_shell.specs.Grammar.{AreAsked};
 ghost use Rattle.question_shell.specs.Items.{items_of};
-ghost use Rattle.question_shell.specs.Needs.{question_needs};
+ghost use Rattle.question_shell.specs.Needs.{needs_after, question_needs};
 ghost use Rattle.question_shell.specs.Reply.{asked_cost, desk_of};
 
 use crate::answer::Answer;
@@ -36,8 +36,8 @@ pub fn count_found<A: Meets, L: Reads>(
     ensures untouched { OnErr result (desk.new ≡ desk.old) }
     ensures cost { steps.new + budget_of desk.new.view ≤ steps.old + budget_of desk.old.view
         + asked_cost (A.cost answerer) (held_of desk.old.view) (Ok (Some question)) }
-    ensures held { NeedsAtMost A.Walk.needs desk.old.walks (question_needs (A.needs answerer)
-        (slot_needs A.Walk.needs desk.old.walks) question) desk.new.walks }
+    ensures needs { NeedsWithin A.Walk.needs desk.new.walks (needs_after (A.needs answerer)
+        (slot_needs A.Walk.needs desk.old.walks) question) }
 {
     let mut answer = ask(alloc, answerer, &question, desk, steps)?;
     Ok(count_left(&mut answer, desk, steps))
@@ -56,7 +56,7 @@ fn count_left<W: Lazy<Item = Stop> + Drop, L: Reads>(
     ensures desk { held_of desk.new.view ≡ desk_left W.left W.budget answer.old desk.old.view }
     ensures reads { steps.new + budget_of desk.new.view
         ≤ steps.old + reads_left W.left W.budget answer.old desk.old.view }
-    ensures walks { NeedsNoMore W.needs desk.old.walks desk.new.walks }
+    ensures needs { NeedsNoMore W.needs desk.old.walks desk.new.walks }
 {
     let mut count = 0u64;
     'items: while let Some(_) = answer.draw(desk, steps) {

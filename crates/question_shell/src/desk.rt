@@ -1,6 +1,6 @@
 ghost use Rattle.std.specs.Prelude.{◌≡◌, ◌+◌, ◌++◌, ◌<◌, ◌≤◌, [], IfNone, IfOk, None, Some, length};
 ghost use Rattle.step_count.specs.Reads.{ReadsWithin};
-ghost use Rattle.std.specs.Prelude.{option_map, option_to_list, slice_set};
+ghost use Rattle.std.specs.Prelude.{option_map, option_to_list, slice_index_or, slice_set};
 ghost use Rattle.question_shell.specs.Desk.{NeedsNoMore, budget_in, empty_state, is_held_in};
 ghost use Rattle.question_shell.specs.Desk.{slot_needs, slot_stops, slot_walk};
 
@@ -65,7 +65,8 @@ impl<W: Lazy<Item = Stop> + Drop> Desk<W> {
 
     /// Takes the first stop off the walk in the place of this slot and answers it, or `None` exactly
     /// where the place is empty or its walk has no stop left. A walk that has ended stays held. What is
-    /// read is taken from the budget of that walk, which needs it. The other places stay.
+    /// read is taken from the budget of that walk, and is among what that walk needs. The other
+    /// places stay.
     pub fn draw<L: Reads>(&mut self, slot: u8, steps: &mut Steps<L>) -> Option<Stop>
         requires slot { slot < 16 }
         requires may { ReadsWithin (slot_needs W.needs self.old.walks slot) L.may }
@@ -78,6 +79,8 @@ impl<W: Lazy<Item = Stop> + Drop> Desk<W> {
         ensures others { self.new.view
             ≡ slice_set self.old.view slot (slot_walk self.new.view slot) }
         ensures needs { NeedsNoMore W.needs self.old.walks self.new.walks }
+        ensures stays { self.new.walks
+            ≡ slice_set self.old.walks slot (slice_index_or self.new.walks slot None) }
     {
         let Some(walk) = &mut self.places[slot as usize] else {
             return None;
@@ -91,6 +94,7 @@ impl<W: Lazy<Item = Stop> + Drop> Desk<W> {
         requires { slot < 16 }
         ensures walk { option_map (λ walk. (W.left walk, W.budget walk)) result
             ≡ slot_walk self.old.view slot }
+        ensures own { result ≡ slice_index_or self.old.walks slot None }
         ensures emptied { self.new.view ≡ slice_set self.old.view slot None }
         ensures walks { self.new.walks ≡ slice_set self.old.walks slot None }
     {

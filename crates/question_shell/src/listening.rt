@@ -2,11 +2,11 @@ ghost use Rattle.std.specs.Prelude.{◌≡◌, ◌≢◌, ℕ, ◌≤◌, [], Li
 ghost use Rattle.step_count.specs.Reads.{AllMay, ReadsWithin};
 ghost use Rattle.host_ports.specs.Faults.{Rose};
 ghost use Rattle.host_ports.specs.Counting.{SinkCounts};
-ghost use Rattle.question_shell.specs.Desk.{NeedsAtMost, slot_needs};
+ghost use Rattle.question_shell.specs.Desk.{NeedsWithin, slot_needs};
 ghost use Rattle.question_shell.specs.Grammar.{question_of};
 ghost use Rattle.question_shell.specs.LineKept.{kept_of};
 ghost use Rattle.question_shell.specs.Lines.{input_lines};
-ghost use Rattle.question_shell.specs.Needs.{asked_needs};
+ghost use Rattle.question_shell.specs.Needs.{asked_needs, needs_after_line};
 ghost use Rattle.question_shell.specs.Says.{voice};
 ghost use Rattle.question_shell.specs.Session.{meaning_by};
 ghost use Rattle.question_shell.specs.Turns.{Heard, AnswerTold, AnswersLines, Moment, AnswersBytes, Flushes};
@@ -114,9 +114,9 @@ fn take_line<A: Meets, K: Sink, L: Reads>(
         (moment (K.said sink.new) talk.new.text desk.new.view steps.new) (question_of line) result }
     ensures line { talk.new.line ≡ kept_of [] }
     ensures faults { SinkCounts K.Sink sink.old sink.new (result ≡ Err fault.Say) }
-    ensures held { (line : List ℕ) → talk.old.line ≡ kept_of line →
-        NeedsAtMost A.Walk.needs desk.old.walks (asked_needs (A.needs answerer)
-        (slot_needs A.Walk.needs desk.old.walks) (question_of line)) desk.new.walks }
+    ensures needs { (line : List ℕ) → talk.old.line ≡ kept_of line →
+        NeedsWithin A.Walk.needs desk.new.walks (needs_after_line (A.needs answerer)
+        (slot_needs A.Walk.needs desk.old.walks) (question_of line)) }
 {
     let read = talk.line.read(&mut talk.question);
     talk.line.clear();

@@ -52,7 +52,7 @@ pub(crate) fn say_answer<W: Lazy<Item = Stop> + Drop, K: Sink, L: Reads>(
         held_of desk.new.view ≡ desk_left W.left W.budget answer.old desk.old.view) }
     ensures reads { steps.new + budget_of desk.new.view
         ≤ steps.old + reads_left W.left W.budget answer.old desk.old.view }
-    ensures walks { NeedsNoMore W.needs desk.old.walks desk.new.walks }
+    ensures needs { NeedsNoMore W.needs desk.old.walks desk.new.walks }
     ensures faults { SinkCounts K.Sink sink.old sink.new (is_err result ≡ true) }
 {
     match answer {
@@ -101,7 +101,7 @@ fn say_items<W: Lazy<Item = Stop> + Drop, K: Sink, L: Reads>(
         held_of desk.new.view ≡ desk_left W.left W.budget answer.old desk.old.view) }
     ensures reads { steps.new + budget_of desk.new.view
         ≤ steps.old + reads_left W.left W.budget answer.old desk.old.view }
-    ensures walks { NeedsNoMore W.needs desk.old.walks desk.new.walks }
+    ensures needs { NeedsNoMore W.needs desk.old.walks desk.new.walks }
     ensures faults { SinkCounts K.Sink sink.old sink.new (is_err result ≡ true) }
 {
     let mut count = 0u64;

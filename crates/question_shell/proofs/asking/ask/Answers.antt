@@ -26,6 +26,12 @@ returns-in-Free-clause-ok g c =
     let asked : c.args.question.now ≡ question.Free arm.slot = arm.is in
     rw asked (c.free.ensures.value _ c.args.steps.now)
 
+pub returns-in-Free-clause-needs : goal.returns-in-Free-clause-needs
+returns-in-Free-clause-needs g c =
+    let arm = c.in-Free in
+    let asked : c.args.question.now ≡ question.Free arm.slot = arm.is in
+    rw asked (c.free.ensures.needs (g.A.Answerer.needs c.args.answerer))
+
 pub ask_chart-requires-clause-may : goal.ask_chart-requires-clause-may
 ask_chart-requires-clause-may g c = (slot_needs g.A.Walk.Lazy.needs c.args.desk.now.walks, c.requires.may)
 

@@ -1,6 +1,6 @@
-use Rattle.std.proofs.Common.{None, sym}
+use Rattle.std.proofs.Common.{sym}
 use Rattle.question_shell.specs.Desk.{no_needs}
-use Rattle.question_shell.proofs.DeskLemmas.{needs-set, within-none}
+use Rattle.question_shell.proofs.DeskLemmas.{needs-emptied, within-none}
 use Rattle.question_shell.proofs.DrawingLemmas.{answer-empty, answer-freed}
 use Rattle.question_shell.proofs.asking.free.Goals as goal
 
@@ -10,17 +10,15 @@ returns-in_default-clause-value g c meaning steps =
     (sym c.in_default.ensures.walk) c.in_default.ensures.emptied
 
 pub returns-in_default-clause-needs : goal.returns-in_default-clause-needs
-returns-in_default-clause-needs g c = record {
+returns-in_default-clause-needs g c needs = record {
   own = within-none no_needs;
-  held = rw c.in_default.ensures.walks
-      (needs-set g.W.Lazy.needs no_needs c.args.desk.now.walks c.args.slot None (within-none no_needs));
+  desk = rw c.in_default.ensures.walks (needs-emptied g.W.Lazy.needs c.args.desk.now.walks c.args.slot);
 }
 
 pub returns-clause-needs : goal.returns-clause-needs
-returns-clause-needs g c = record {
+returns-clause-needs g c needs = record {
   own = within-none no_needs;
-  held = rw c.in-Some.ensures.walks
-      (needs-set g.W.Lazy.needs no_needs c.args.desk.now.walks c.args.slot None (within-none no_needs));
+  desk = rw c.in-Some.ensures.walks (needs-emptied g.W.Lazy.needs c.args.desk.now.walks c.args.slot);
 }
 
 pub returns-clause-value : goal.returns-clause-value

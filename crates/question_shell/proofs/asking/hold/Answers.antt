@@ -1,9 +1,10 @@
 use Rattle.std.proofs.lemmas.Grind.{common_steps}
 use Rattle.std.proofs.Common.{Some, ◌<◌, arith, length}
 use Rattle.track_types.specs.declared.question.Question.TheVariants as question
+use Rattle.question_shell.specs.Desk.{no_needs}
 use Rattle.question_shell.specs.Session.{meaning_by}
 use Rattle.question_shell.proofs.CountLemmas.{asked_kept}
-use Rattle.question_shell.proofs.DeskLemmas.{needs-set, within-none}
+use Rattle.question_shell.proofs.DeskLemmas.{needs-held, within-none}
 use Rattle.question_shell.proofs.DrawingLemmas.{answer-hold}
 use Rattle.question_shell.proofs.asking.hold.Goals as goal
 
@@ -23,9 +24,9 @@ returns-clause-needs g c =
     let near = c.requires in
     let these = g.A.Answerer.needs c.args.answerer (question.Path c.args.object c.args.from c.args.to) in
     record {
-      own = within-none these;
-      held = rw c.hold.ensures.walks
-          (needs-set g.A.Walk.Lazy.needs these c.args.desk.now.walks c.args.slot (Some c.in_ok-walk.walk)
+      own = within-none no_needs;
+      desk = rw c.hold.ensures.walks
+          (needs-held g.A.Walk.Lazy.needs these c.args.desk.now.walks c.args.slot c.in_ok-walk.walk
           (simp (asked_kept c.args.from near.1, asked_kept c.args.to near.2) at c.in_ok-walk.ensures.needs));
     }
 

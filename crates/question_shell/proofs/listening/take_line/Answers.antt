@@ -16,6 +16,12 @@ returns-in-Ok-false-clause-told g c line is_kept =
       reads = omega arith;
     })
 
+pub returns-in-Ok-false-clause-needs : goal.returns-in-Ok-false-clause-needs
+returns-in-Ok-false-clause-needs g c line is_kept =
+    let asked : question_of line ≡ Ok None =
+    sym (rw c.in-Ok-false.field-0-test at (c.in-Ok-false.ensures.value line is_kept)) in
+    rw asked (λ slot read is. is)
+
 pub answer_question-requires-clause-may : goal.answer_question-requires-clause-may
 answer_question-requires-clause-may g c =
     let line = c.args.talk.now.line in

@@ -1,5 +1,6 @@
 use Rattle.std.proofs.lemmas.Grind.{common_steps}
-use Rattle.std.proofs.Common.{List, subst, ◌≡◌, ◌<◌, ◌∙◌, sym, ap, arith, length, map, set, Some}
+use Rattle.std.proofs.Common.{List, subst, ◌≡◌, ◌<◌, ◌∙◌, sym, ap, arith, length, map, get_or, set, None, Some}
+use Rattle.std.proofs.lemmas.List.{get_or-set_same}
 use Rattle.std.specs.Prelude.{option_map, option_to_list}
 use Rattle.question_shell.specs.Desk.{DeskState, NeedsNoMore}
 use Rattle.question_shell.proofs.DeskLemmas.{IsDrawn, draws-cost, draws-found, draws-held, draws-others}
@@ -51,6 +52,20 @@ returns-clause-needs g c =
     subst (λ (walks : List _). NeedsNoMore g.W.Lazy.needs walks now) held
     (needs-drawn g.W.Lazy.needs places c.args.slot c.in-Some.walk c.draw.new.self c.index_mut.result.now
     (sym c.index_mut.ensures.value ∙ c.in-Some.is) c.draw.ensures.needs)
+
+pub returns-clause-stays : goal.returns-clause-stays
+returns-clause-stays g c =
+    let places = c.self.inside.places.items in
+    let slot = c.args.slot in
+    let place = Some c.draw.new.self in
+    let now = set places slot place in
+    let held : places ≡ c.args.self.now.walks = ap (λ (d : DeskState _). d.walks) c.self.view_is in
+    let below : slot < length places = omega (arith, c.requires.slot, c.self.invariant) in
+    subst (λ (walks : List _). now ≡ set walks slot (get_or now slot None)) held
+    (ap (set places slot) (sym (get_or-set_same places slot place None below)))
+
+pub returns-in_default-clause-stays : goal.returns-in_default-clause-stays
+returns-in_default-clause-stays g c = grind (arith, common_steps)
 
 pub returns-clause-others : goal.returns-clause-others
 returns-clause-others g c = draws-others (drawn g (goal.at.returns-clause-others g c).After-draw)
