@@ -169,7 +169,7 @@ module _ {W : Type 0} (needs : W → Read → Bool) where
       elim (needs-set these walks slot (Some walk) own place read is) [
         | inl before ↦ either-left (slot_needs needs walks place read) (slot == place && these read) before
         | inr new ↦ either-right (slot_needs needs walks place read) (slot == place && these read)
-          (rw (eq-eqb slot place new.0) new.1)
+            (rw (eq-eqb slot place new.0) new.1)
       ]
 
   -- a place was emptied

@@ -325,8 +325,8 @@ needs_by_kind : Question → Read → Bool
 needs_by_kind (question.Path object from to) read = is_of_period object read
 needs_by_kind other read = true
 
--- A `more` makes the reads of the walk in its slot, a `slice` what the answerer says, and `hold`, `free`, `info` and a bad
--- line none. Here slot 0 holds a walk that needs period 7.
+-- A `more` makes the reads of the walk in its slot, a `slice` what the answerer says, and `hold`, `free`, `info` and a
+-- bad line none. Here slot 0 holds a walk that needs period 7.
 needs_of_lines : map (λ line.
     asked_needs needs_by_kind (slot_needs is_of_period (Some 7 ∷ None ∷ [])) (question_of line) (ofPeriod 7))
     (input_lines (codes "hold 15 7 0 2\nmore 0 9\nmore 1 9\nfree 0\ninfo\nwhere\nslice 0 disc 0 0 1\n"))
@@ -334,8 +334,8 @@ needs_of_lines : map (λ line.
 unfolding needs_by_kind whole_lines unended_line
 needs_of_lines = refl
 
--- After each of these lines, asked of the same desk, whether slots 0 and 1 need period 7: after a `hold` of its path slot 1
--- does too, and after `free 0` slot 0 does not.
+-- After each of these lines, asked of the same desk, whether slots 0 and 1 need period 7: after a `hold` of its path slot
+-- 1 does too, and after `free 0` slot 0 does not.
 needs_after_lines : map (λ line. map (λ slot.
     needs_after_line needs_by_kind (slot_needs is_of_period (Some 7 ∷ None ∷ [])) (question_of line) slot (ofPeriod 7))
     (0 ∷ 1 ∷ []))

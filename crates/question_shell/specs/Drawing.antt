@@ -85,9 +85,8 @@ module _ {W : Type 0} (needs : W → Read → Bool) where
     pub own : ReadsWithin (needs_left now after) (needs_left before walks)
     pub desk : NeedsNoMore needs walks after
 
-  -- After a question whose answer makes these reads, and after which each place of the desk needs those, the answer needs
-  -- no others, and nor does a place.
-  pub record AnswerWithin (these : Read → Bool) (those : ℕ → Read → Bool) (answer : Answer W) (walks : List (Option W))
-      : Type 0 where
+  -- The answer needs no other reads than these, and each place of the desk none but those that stand for it.
+  pub record AnswerWithin (these : Read → Bool) (those : ℕ → Read → Bool) (answer : Answer W)
+      (walks : List (Option W)) : Type 0 where
     pub own : ReadsWithin (needs_left answer walks) these
     pub desk : NeedsWithin needs walks those

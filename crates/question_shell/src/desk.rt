@@ -63,10 +63,10 @@ impl<W: Lazy<Item = Stop> + Drop> Desk<W> {
         self.places[slot as usize] = Some(walk);
     }
 
-    /// Takes the first stop off the walk in the place of this slot and answers it, or `None` exactly
-    /// where the place is empty or its walk has no stop left. A walk that has ended stays held. What is
-    /// read is taken from the budget of that walk, and is among what that walk needs. The other
-    /// places stay.
+    /// Takes the first stop off the walk in the place of this slot and answers it, or `None`
+    /// exactly where the place is empty or its walk has no stop left. A walk that has ended stays
+    /// held. What is read is taken from the budget of that walk, and is among what that walk needs.
+    /// The other places stay.
     pub fn draw<L: Reads>(&mut self, slot: u8, steps: &mut Steps<L>) -> Option<Stop>
         requires slot { slot < 16 }
         requires may { ReadsWithin (slot_needs W.needs self.old.walks slot) L.may }

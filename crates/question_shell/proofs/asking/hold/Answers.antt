@@ -1,5 +1,5 @@
 use Rattle.std.proofs.lemmas.Grind.{common_steps}
-use Rattle.std.proofs.Common.{Some, ◌<◌, arith, length}
+use Rattle.std.proofs.Common.{◌<◌, arith, length}
 use Rattle.track_types.specs.declared.question.Question.TheVariants as question
 use Rattle.question_shell.specs.Desk.{no_needs}
 use Rattle.question_shell.specs.Session.{meaning_by}
