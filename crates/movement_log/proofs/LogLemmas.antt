@@ -1,12 +1,13 @@
 -- The values of a log, from one row to the next.
-use Rattle.std.proofs.Common.{◌≡◌, ℕ, zero, suc, ◌+◌, ◌-◌, ◌<◌, ◌≤◌, true, false, List, [], ◌∷◌, ◌++◌, length, map, take, replicate, get_or, arith, refl, sym, ◌∙◌, ap}
+use Rattle.std.proofs.Common.{◌≡◌, ℕ, zero, suc, ◌+◌, ◌-◌, ◌<◌, ◌≤◌, true, false, List, [], ◌∷◌, ◌++◌, length, map, take, replicate, get_or, append_assoc, arith, refl, sym, ◌∙◌, ap}
 use Rattle.std.specs.Prelude.{ℤ, pos, ◌+ℤ◌, ◌-ℤ◌, ◌≤ℤ◌, unsigned_abs, fold}
 use Rattle.std.specs.Int.{int_max, int_min}
 use Rattle.std.specs.List.{range_with_len}
 use Rattle.std.proofs.lemmas.Bool.Decides.{nat_tests}
 use Rattle.std.proofs.lemmas.Int.{fold-int_max_bounds, fold-int_min_bounds, ints}
 use Rattle.std.proofs.Math.ListN.{get_or-map}
-use Rattle.std.proofs.lemmas.List.{length-map, map-append, take_all}
+use Rattle.std.proofs.Math.Seq.{take-append-add}
+use Rattle.std.proofs.lemmas.List.{length-append, length-map, map-append, take_all}
 use Rattle.std.proofs.lemmas.List.FromFn.{length-map-range_with_len, map-range_with_len_more}
 use Rattle.list_laws.proofs.RangeLemmas.{range-parts}
 use Rattle.spiral_code.specs.Spiral.{ring_of}
@@ -37,6 +38,13 @@ module _ (value : ℕ → ℕ) where
         zeros (1 + n) gap (λ k low high. none k (omega arith) (omega arith)),
       )
       (ap (λ front. front ++ replicate gap 0) is)
+
+-- what is cut or filled up to so many after other values
+pub resized : (before log : List ℕ) (n : ℕ) → take (length before + n) (before ++ log)
+    ++ replicate (length before + n - length (before ++ log)) 0 ≡ before ++ (take n log ++ replicate (n - length log) 0)
+resized before log n =
+    let gap : length before + n - length (before ++ log) ≡ n - length log = omega (arith, length-append before log) in
+    rw (take-append-add before log n, gap) (append_assoc before (take n log) (replicate (n - length log) 0))
 
 -- the value of an anchor's object so many instants after the anchor
 abbrev pub value_after : List Row → Row → ℕ → ℕ

@@ -1,11 +1,12 @@
 -- The blocks of a chart: their headers, their logs, and the alphabet that these use.
-use Rattle.std.specs.Prelude.{ℕ, suc, ◌%◌, max, pos, ◌+ℤ◌, ◌==◌, List, filter, fold, map}
+use Rattle.std.specs.Prelude.{ℕ, suc, ◌%◌, max, pos, ◌+ℤ◌, ◌==◌, List, filter, fold, length, map}
 use Rattle.std.specs.List.{flat_map, list_any, position_or_len, range_with_len}
 use Rattle.track_types.specs.Chart.{ChartView}
 use Rattle.track_types.specs.Quantities.{anchors_of, elapsed, first_of, log_length, objects_of, period_count, period_of, span_of}
 use Rattle.track_types.specs.declared.row.Row.{Row}
 use Rattle.movement_log.specs.Values.{value_at}
 use Rattle.movement_log.specs.declared.head.Head.{Head}
+use Rattle.movement_log.specs.declared.raw_logs.JoinedLogs.{JoinedLogs}
 use Rattle.movement_log.specs.declared.raw_logs.RawLogs.{RawLogs}
 
 -- the anchors of a period, by object
@@ -53,4 +54,13 @@ logs_of chart = record {
   alphabet = alphabet_of chart;
   heads = map (head_of chart) (block_anchors chart);
   terminals = map (λ values. map (terminal_of (alphabet_of chart)) values) (logged_values chart);
+}
+
+-- the same blocks, with the terminals of all logs in one list, and the length of each log
+abbrev pub joined_logs : RawLogs → JoinedLogs
+joined_logs raw = record {
+  alphabet = raw.alphabet;
+  heads = raw.heads;
+  terminals = flat_map (λ log. log) raw.terminals;
+  lengths = map length raw.terminals;
 }

@@ -1,6 +1,7 @@
-ghost use Rattle.std.specs.Prelude.{◌≡◌, ◌<◌, ◌-ℤ◌, All, IfOk, length, map, unsigned_abs};
+ghost use Rattle.std.specs.Prelude.{◌≡◌, ◌<◌, ◌++◌, ◌-ℤ◌, All, IfOk, OnOk, length, map, unsigned_abs};
+ghost use Rattle.std.specs.List.{flat_map};
 ghost use Rattle.track_types.specs.declared.limit.TheConstants.{MAX_EXTENT};
-ghost use Rattle.movement_log.specs.Blocks.{IsBlockIn, anchor_in, is_in_log, row_at};
+ghost use Rattle.movement_log.specs.Blocks.{IsBlockIn, anchor_in, is_in_log, log_length_of, row_at};
 ghost use Rattle.movement_log.specs.Logs.{values_after};
 ghost use Rattle.movement_log.specs.Values.{move_value};
 ghost use Rattle.spiral_code.specs.Spiral.{ring_of};
@@ -8,43 +9,73 @@ ghost use Rattle.spiral_code.specs.Spiral.{ring_of};
 use crate::blocks::{Block, log_length};
 use spiral_code::encode_move;
 use std::alloc::{AllocError, Global};
-use track_types::{Chart, List64, Row};
+use track_types::{Chart, Row};
 
-/// The log of each block, as values: 0 for an absence, and a movement's code and one.
-pub(crate) fn logs_of(
+/// How many terminals the log of each block has.
+pub(crate) fn lengths_of(
     alloc: Global,
     chart: &Chart,
     blocks: &[Block],
-) -> Result<Vec<List64>, AllocError>
+) -> Result<Vec<u32>, AllocError>
     requires { All (IsBlockIn chart.now) blocks.now }
-    ensures { IfOk result (λ logs. logs.items ≡ map (λ block. values_after chart.now (anchor_in chart.now.rows block)) blocks.now) }
+    ensures { IfOk result (λ lengths. lengths.items
+        ≡ map (λ block. log_length_of chart.now (anchor_in chart.now.rows block)) blocks.now) }
 {
-    let mut logs = Vec::with_capacity(alloc, blocks.len())?;
+    let mut lengths = Vec::with_capacity(alloc, blocks.len())?;
     for block in blocks {
-        logs.push(List64::new(log_of(alloc, chart, block.at)?))?;
+        lengths.push(length_at(chart, block.at))?;
     }
-    Ok(logs)
+    Ok(lengths)
 }
 
-// The values of the block whose anchor stands at this place.
-fn log_of(alloc: Global, chart: &Chart, at: usize) -> Result<Vec<u64>, AllocError>
+// How many terminals the log of the block has whose anchor stands at this place.
+fn length_at(chart: &Chart, at: usize) -> u32
     requires { at < length chart.now.rows }
-    ensures { IfOk result (λ log. log.items ≡ values_after chart.now (row_at chart.now.rows at)) }
+    ensures { result ≡ log_length_of chart.now (row_at chart.now.rows at) }
+{
+    let rows = chart.rows();
+    log_length(chart, &rows[at]) as u32
+}
+
+/// The logs of blocks, one after the other, as values: 0 for an absence, and a movement's code and
+/// one. There are `count` values.
+pub(crate) fn values_of(
+    alloc: Global,
+    chart: &Chart,
+    blocks: &[Block],
+    count: usize,
+) -> Result<Vec<u64>, AllocError>
+    requires { All (IsBlockIn chart.now) blocks.now }
+    ensures { IfOk result (λ values. values.items
+        ≡ flat_map (λ block. values_after chart.now (anchor_in chart.now.rows block)) blocks.now) }
+{
+    let mut values = Vec::with_capacity(alloc, count)?;
+    for block in blocks {
+        append_log(chart, block.at, &mut values)?;
+    }
+    Ok(values)
+}
+
+// Appends the values of the block whose anchor stands at this place.
+fn append_log(chart: &Chart, at: usize, values: &mut Vec<u64>) -> Result<(), AllocError>
+    requires { at < length chart.now.rows }
+    ensures { OnOk result (values.new.items
+        ≡ values.old.items ++ values_after chart.now (row_at chart.now.rows at)) }
 {
     let rows = chart.rows();
     let anchor = &rows[at];
     let len = log_length(chart, anchor);
-    let mut log = Vec::with_capacity(alloc, len)?;
+    let start = values.len();
     let mut last = at;
     while last + 1 < rows.len() && is_in_log(anchor, &rows[last + 1], len) {
         let row = &rows[last + 1];
         // The object is absent at each instant between its rows.
-        log.resize(instants_between(anchor, row) - 1, 0)?;
-        log.push(move_value(&rows[last], row))?;
+        values.resize(start + (instants_between(anchor, row) - 1), 0)?;
+        values.push(move_value(&rows[last], row))?;
         last += 1;
     }
-    log.resize(len, 0)?;
-    Ok(log)
+    values.resize(start + len, 0)?;
+    Ok(())
 }
 
 // Whether a later row is of the anchor's object, and among the `len` instants after the anchor's.

@@ -1,8 +1,0 @@
-use Rattle.std.proofs.Common.{◌≡◌, map, take}
-use Rattle.movement_log.specs.Blocks.{anchor_in}
-use Rattle.movement_log.specs.Logs.{values_after}
-use Rattle.movement_log.proofs.logs.logs_of.Given as goal
-
-abbrev pub invariant-loop-block : goal.invariant-loop-block
-invariant-loop-block l =
-    l.logs.items ≡ map (λ block. values_after l.chart (anchor_in l.chart.rows block)) (take l.block-index l.blocks)
