@@ -1,3 +1,4 @@
+pub mod BlockLemmas
 mod PassLemmas
 mod NewerLemmas
 mod CountLemmas

@@ -1,8 +1,8 @@
 -- Blocks in one row: a pair counts in the row what it counts in the blocks, and a pass leaves the row of what it leaves.
-use Rattle.std.proofs.Common.{◌≡◌, ◌≢◌, ℕ, zero, suc, ◌+◌, ◌<◌, ◌==◌, false, if◌then◌else◌, List, [], ◌∷◌, ◌++◌, length, drop, map, refl, sym, ◌∙◌, ap, arith, inl, inr, append_assoc}
-use Rattle.std.specs.List.{AllByRecursion}
-use Rattle.std.proofs.lemmas.Bool.{cases_Bool, and_right, eqb-true, eq-eqb, ne_eqb}
-use Rattle.std.proofs.lemmas.List.{append-nil, get_or_past, get_or_push, length-append}
+use Rattle.std.proofs.Common.{◌≡◌, ◌≢◌, ℕ, zero, suc, ◌+◌, ◌<◌, ◌==◌, false, true, ltb, if◌then◌else◌, List, [], ◌∷◌, ◌++◌, length, drop, filter, map, refl, sym, ◌∙◌, ap, arith, inl, inr, append_assoc, zero-add}
+use Rattle.std.specs.List.{AllByRecursion, flat_map}
+use Rattle.std.proofs.lemmas.Bool.{cases_Bool, and_right, eqb-true, eq-eqb, le-ltb, lt-ltb, ne_eqb}
+use Rattle.std.proofs.lemmas.List.{get_or_past, get_or_push, length-append}
 use Rattle.std.proofs.lemmas.List.Sums.{sum_by-cons}
 use Rattle.repair_grammar.specs.RePair.{is_pair, replacement_count, block_after_pass, pair_count, AreBelow}
 use Rattle.repair_grammar.specs.Threads.{at, live, marked_row, HasEnds}
@@ -86,75 +86,108 @@ unfolding marked_row
 row_more front block blocks = append_assoc (front ++ END ∷ []) block (marked_row blocks)
     ∙ append_assoc front (END ∷ []) (block ++ marked_row blocks)
 
--- what is cut from a row with gaps, where a block was begun
-pub cut : List ℕ → List ℕ → List (List ℕ)
-cut block [] = []
-cut block (x ∷ xs) = if x == END then block ∷ cut [] xs
-    else if x == GAP then cut block xs else cut (block ++ x ∷ []) xs
+-- how long the blocks of a row with gaps are, where a block was begun that has so many symbols
+pub lengths_after : ℕ → List ℕ → List ℕ
+lengths_after len [] = []
+lengths_after len (x ∷ xs) = if x == END then len ∷ lengths_after 0 xs
+    else if x == GAP then lengths_after len xs else lengths_after (len + 1) xs
 
-pub cut-none : (block : List ℕ) → cut block [] ≡ []
-unfolding cut
-cut-none block = refl
+pub lengths_after-none : (len : ℕ) → lengths_after len [] ≡ []
+unfolding lengths_after
+lengths_after-none len = refl
 
-module _ (block : List ℕ) (x : ℕ) (xs : List ℕ) where
-  pub cut-end : x ≡ END → cut block (x ∷ xs) ≡ block ∷ cut [] xs
-  unfolding cut
-  cut-end is = rw (eq-eqb x END is) refl
+module _ (len x : ℕ) (xs : List ℕ) where
+  pub lengths_after-end : x ≡ END → lengths_after len (x ∷ xs) ≡ len ∷ lengths_after 0 xs
+  unfolding lengths_after
+  lengths_after-end is = rw (eq-eqb x END is) refl
 
-  pub cut-gap : x ≢ END → x ≡ GAP → cut block (x ∷ xs) ≡ cut block xs
-  unfolding cut
-  cut-gap apart is = rw (ne_eqb x END apart, eq-eqb x GAP is) refl
+  pub lengths_after-gap : x ≢ END → x ≡ GAP → lengths_after len (x ∷ xs) ≡ lengths_after len xs
+  unfolding lengths_after
+  lengths_after-gap apart is = rw (ne_eqb x END apart, eq-eqb x GAP is) refl
 
-  pub cut-more : x ≢ END → x ≢ GAP → cut block (x ∷ xs) ≡ cut (block ++ x ∷ []) xs
-  unfolding cut
-  cut-more apart symbol = rw (ne_eqb x END apart, ne_eqb x GAP symbol) refl
+  pub lengths_after-more : x ≢ END → x ≢ GAP → lengths_after len (x ∷ xs) ≡ lengths_after (len + 1) xs
+  unfolding lengths_after
+  lengths_after-more apart symbol = rw (ne_eqb x END apart, ne_eqb x GAP symbol) refl
 
 -- gaps make no difference
-cut-live : (block xs : List ℕ) → cut block (live xs) ≡ cut block xs
-unfolding cut live
-cut-live block [] = refl
-cut-live block (x ∷ xs) = elim (cases_Bool (x == END)) [
+lengths_after-live : (len : ℕ) (xs : List ℕ) → lengths_after len (live xs) ≡ lengths_after len xs
+unfolding lengths_after live
+lengths_after-live len [] = refl
+lengths_after-live len (x ∷ xs) = elim (cases_Bool (x == END)) [
   | inl is ↦ let symbol : (x == GAP) ≡ false =
       ne_eqb x GAP (λ same. omega (arith, same, eqb-true x END is)) in
-      rw (symbol, is) (ap (λ blocks. block ∷ blocks) (cut-live [] xs))
+      rw (symbol, is) (ap (λ lengths. len ∷ lengths) (lengths_after-live 0 xs))
   | inr apart ↦ elim (cases_Bool (x == GAP)) [
-    | inl gap ↦ rw (gap, apart) (cut-live block xs)
-    | inr symbol ↦ rw (symbol, apart, symbol) (cut-live (block ++ x ∷ []) xs)
+    | inl gap ↦ rw (gap, apart) (lengths_after-live len xs)
+    | inr symbol ↦ rw (symbol, apart, symbol) (lengths_after-live (len + 1) xs)
   ]
 ]
 
 -- a block, and all of them
-cut-block : (front block rest : List ℕ) → AllByRecursion (λ symbol. symbol < END) block →
-    cut front (block ++ END ∷ rest) ≡ (front ++ block) ∷ cut [] rest
-cut-block front [] rest below = cut-end front END rest refl
-    ∙ ap (λ xs. xs ∷ cut [] rest) (sym (append-nil front))
-cut-block front (x ∷ block) rest below =
-    cut-more front x (block ++ END ∷ rest) (λ same. omega (arith, same, below.0))
+lengths_after-block : (len : ℕ) (block rest : List ℕ) → AllByRecursion (λ symbol. symbol < END) block →
+    lengths_after len (block ++ END ∷ rest) ≡ (len + length block) ∷ lengths_after 0 rest
+lengths_after-block len [] rest below = lengths_after-end len END rest refl
+    ∙ ap (λ n. n ∷ lengths_after 0 rest) (omega arith)
+lengths_after-block len (x ∷ block) rest below =
+    lengths_after-more len x (block ++ END ∷ rest) (λ same. omega (arith, same, below.0))
     (λ same. omega (arith, same, below.0))
-    ∙ cut-block (front ++ x ∷ []) block rest below.1
-    ∙ ap (λ xs. xs ∷ cut [] rest) (append_assoc front (x ∷ []) block)
+    ∙ lengths_after-block (len + 1) block rest below.1 ∙ ap (λ n. n ∷ lengths_after 0 rest) (omega arith)
 
-cut-row : (blocks : List (List ℕ)) (tail : List ℕ) → AreBelow END blocks → marked_row blocks ≡ END ∷ tail →
-    cut [] tail ≡ blocks
+lengths_after-row : (blocks : List (List ℕ)) (tail : List ℕ) → AreBelow END blocks → marked_row blocks ≡ END ∷ tail →
+    lengths_after 0 tail ≡ map length blocks
 unfolding marked_row AreBelow
-cut-row [] tail below is = ap (cut []) (sym (ap (drop 1) is)) ∙ cut-none []
-cut-row (block ∷ blocks) tail below is =
+lengths_after-row [] tail below is = ap (lengths_after 0) (sym (ap (drop 1) is)) ∙ lengths_after-none 0
+lengths_after-row (block ∷ blocks) tail below is =
     let rest = row-cons blocks in
-    ap (cut []) (sym (ap (drop 1) is) ∙ ap (λ row. block ++ row) rest.1)
-    ∙ cut-block [] block rest.0 below.0
-    ∙ ap (λ later. block ∷ later) (cut-row blocks rest.0 below.1 rest.1)
+    ap (lengths_after 0) (sym (ap (drop 1) is) ∙ ap (λ row. block ++ row) rest.1)
+    ∙ lengths_after-block 0 block rest.0 below.0 ∙ ap (λ n. n ∷ lengths_after 0 rest.0) (zero-add (length block))
+    ∙ ap (λ later. length block ∷ later) (lengths_after-row blocks rest.0 below.1 rest.1)
 
-pub cut-all : (blocks : List (List ℕ)) (row rest : List ℕ) (first : ℕ) → row ≡ first ∷ rest → HasEnds row →
-    AreBelow END blocks → live row ≡ marked_row blocks → cut [] rest ≡ blocks
-cut-all blocks row rest first whole ends below is =
+pub lengths_after-all : (blocks : List (List ℕ)) (row rest : List ℕ) (first : ℕ) → row ≡ first ∷ rest → HasEnds row →
+    AreBelow END blocks → live row ≡ marked_row blocks → lengths_after 0 rest ≡ map length blocks
+lengths_after-all blocks row rest first whole ends below is =
     let mark : first ≡ END = sym (ap (λ xs. at xs 0) whole) ∙ ends.first in
     let tail = row-cons blocks in
     let later : live rest ≡ tail.0 = ap (drop 1) (sym (live_mark first rest mark) ∙ ap live (sym whole) ∙ is
     ∙ tail.1) in
-    sym (cut-live [] rest) ∙ ap (cut []) later ∙ cut-row blocks tail.0 below tail.1
+    sym (lengths_after-live 0 rest) ∙ ap (lengths_after 0) later ∙ lengths_after-row blocks tail.0 below tail.1
   where
     live_mark : (first : ℕ) (rest : List ℕ) → first ≡ END → live (first ∷ rest) ≡ first ∷ live rest
     live_mark first rest mark = live_first first rest (ne_eqb first GAP (λ same. omega (arith, same, mark)))
+
+-- the symbols of a row, without marks and gaps
+abbrev pub unmarked : List ℕ → List ℕ
+unmarked row = filter (λ symbol. ltb symbol END) row
+
+unmarked-live : (row : List ℕ) → unmarked (live row) ≡ unmarked row
+unfolding live
+unmarked-live [] = refl
+unmarked-live (x ∷ row) = elim (cases_Bool (x == GAP)) [
+  | inl gap ↦
+      let high : ltb x END ≡ false = le-ltb x END (omega (arith, eqb-true x GAP gap)) in
+      rw (gap, high) (unmarked-live row)
+  | inr symbol ↦ elim (cases_Bool (ltb x END)) [
+    | inl low ↦ rw (symbol, low) (ap (λ symbols. x ∷ symbols) (unmarked-live row))
+    | inr mark ↦ rw (symbol, mark) (unmarked-live row)
+  ]
+]
+
+unmarked-block : (block rest : List ℕ) → AllByRecursion (λ symbol. symbol < END) block →
+    unmarked (block ++ rest) ≡ block ++ unmarked rest
+unmarked-block [] rest below = refl
+unmarked-block (x ∷ block) rest below =
+    let low : ltb x END ≡ true = lt-ltb x END below.0 in
+    rw low (ap (λ symbols. x ∷ symbols) (unmarked-block block rest below.1))
+
+unmarked-row : (blocks : List (List ℕ)) → AreBelow END blocks → unmarked (marked_row blocks) ≡ flat_map (λ block. block) blocks
+unfolding marked_row AreBelow
+unmarked-row [] below = refl
+unmarked-row (block ∷ blocks) below =
+    unmarked-block block (marked_row blocks) below.0 ∙ ap (λ rest. block ++ rest) (unmarked-row blocks below.1)
+
+pub unmarked-all : (blocks : List (List ℕ)) (row : List ℕ) → AreBelow END blocks → live row ≡ marked_row blocks →
+    unmarked row ≡ flat_map (λ block. block) blocks
+unmarked-all blocks row below is = sym (unmarked-live row) ∙ ap unmarked is ∙ unmarked-row blocks below
 
 -- a symbol that is in no block stands nowhere
 new_block : (c : ℕ) (block rest : List ℕ) → AllByRecursion (λ symbol. symbol < c) block →

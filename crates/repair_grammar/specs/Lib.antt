@@ -1,6 +1,7 @@
 -- In reading order.
 pub mod RePair
 pub mod GrammarOf
+pub mod Blocks
 pub mod Counts
 pub mod Kept
 pub mod Runs

@@ -1,26 +1,34 @@
 ghost use Rattle.std.specs.Prelude.{◌≡◌, ◌≤◌, length, IfOk};
-ghost use Rattle.std.specs.List.{sum_by};
+ghost use Rattle.std.specs.List.{sum, sum_by};
 ghost use Rattle.track_types.specs.declared.limit.TheConstants.{MAX_SYMBOLS};
+ghost use Rattle.repair_grammar.specs.Blocks.{blocks_in, joined_grammar};
 ghost use Rattle.repair_grammar.specs.RePair.{AreBelow, re_pair};
 
+use crate::blocks::JoinedBlocks;
 use crate::choosing::{first_pair, settle};
-use crate::grammar::Grammar;
+use crate::grammar::JoinedGrammar;
 use crate::keys::Keys;
 use crate::passing::replace_all;
 use crate::rows::{blocks_from, row};
 use crate::tallying::count_row;
 use crate::text::Text;
 use std::alloc::Global;
-use track_types::{Lists32, Memory, PairList};
+use track_types::{Memory, PairList};
 
 /// The rules and blocks of Re-Pair, by changing in each round only what its pair's places change.
-pub fn by_places(alloc: Global, alphabet: u32, blocks: &Lists32) -> Result<Grammar, Memory>
-    requires below { AreBelow alphabet blocks.now }
-    requires few { sum_by length blocks.now ≤ MAX_SYMBOLS }
+pub fn by_places(
+    alloc: Global,
+    alphabet: u32,
+    blocks: JoinedBlocks,
+) -> Result<JoinedGrammar, Memory>
+    requires whole { sum blocks.lengths ≡ length blocks.symbols }
+    requires below { AreBelow alphabet (blocks_in blocks) }
+    requires few { sum_by length (blocks_in blocks) ≤ MAX_SYMBOLS }
     requires small { alphabet ≤ MAX_SYMBOLS }
-    ensures ok { IfOk result (λ grammar. grammar ≡ re_pair alphabet blocks.now) }
+    ensures ok { IfOk result (λ grammar. grammar ≡ joined_grammar (re_pair alphabet (blocks_in blocks))) }
 {
-    let row = row(alloc, blocks)?;
+    let row = row(alloc, &blocks)?;
+    drop(blocks);
     // Places take 32 bits.
     if row.len() >= u32::MAX as usize {
         return Err(Memory);
@@ -45,8 +53,9 @@ pub fn by_places(alloc: Global, alphabet: u32, blocks: &Lists32) -> Result<Gramm
         )?;
         settle(&mut pairs, &mut keys)?;
     }
-    Ok(Grammar {
+    drop(pairs);
+    Ok(JoinedGrammar {
         rules: PairList::new(rules),
-        blocks: blocks_from(alloc, text.symbols.as_slice())?,
+        blocks: blocks_from(alloc, text.into_symbols())?,
     })
 }

@@ -1,11 +1,13 @@
 //! Re-Pair: blocks of symbols made shorter by rules, each of which stands for two symbols side by
 //! side.
 //!
-//! `compress` gives exactly the rules and blocks of `re_pair` in `specs/RePair.antt`. The method is
+//! `compress` gives exactly the rules and blocks of `re_pair` in `specs/RePair.antt`, and
+//! `compress_joined` the same with the blocks in one list. The method is
 //! Larsson and Moffat's (Off-Line Dictionary-Based Compression, Proceedings of the IEEE 88, 2000).
 //! How ties and overlaps are settled is this project's own.
 #![tactic(auto)]
 
+mod blocks;
 mod choosing;
 mod compressing;
 mod grammar;
@@ -18,4 +20,5 @@ mod rows;
 mod tallying;
 mod text;
 
-pub use grammar::{Grammar, compress};
+pub use blocks::JoinedBlocks;
+pub use grammar::{Grammar, JoinedGrammar, compress, compress_joined};

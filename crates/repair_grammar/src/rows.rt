@@ -1,46 +1,71 @@
-ghost use Rattle.std.specs.Prelude.{◌≡◌, ℕ, List, IfOk};
+ghost use Rattle.std.specs.Prelude.{◌≡◌, ◌^◌, ◌<◌, ℕ, List, IfOk, length, map};
+ghost use Rattle.std.specs.List.{sum};
+ghost use Rattle.repair_grammar.specs.Blocks.{blocks_in, joined_blocks};
 ghost use Rattle.repair_grammar.specs.RePair.{AreBelow};
 ghost use Rattle.repair_grammar.specs.Threads.{live, marked_row, HasEnds};
 ghost use Rattle.repair_grammar.specs.declared.text.TheConstants.{END};
 
+use crate::blocks::JoinedBlocks;
 use crate::text::{END, GAP};
 use std::alloc::Global;
-use track_types::{List32, Lists32, Memory};
+use track_types::{List32, Memory};
 
 /// The blocks in one row, with a mark before each and after the last.
-pub fn row(alloc: Global, blocks: &Lists32) -> Result<Vec<u32>, Memory>
-    ensures { IfOk result (λ row. row.items ≡ marked_row blocks.now) }
+pub fn row(alloc: Global, blocks: &JoinedBlocks) -> Result<Vec<u32>, Memory>
+    requires { sum blocks.now.lengths ≡ length blocks.now.symbols }
+    ensures { IfOk result (λ row. row.items ≡ marked_row (blocks_in blocks.now)) }
 {
-    let mut row = Vec::new(alloc);
-    'each: for block in blocks.as_slice() {
+    let mut rest = blocks.symbols.as_slice();
+    let lengths = blocks.lengths.as_slice();
+    let mut row = Vec::with_capacity(alloc, rest.len() + lengths.len() + 1)?;
+    'each: for len in lengths {
+        let (block, behind) = rest.split_at(*len as usize);
         row.push(END)?;
-        row.extend_from_slice(block.as_slice())?;
+        row.extend_from_slice(block)?;
+        rest = behind;
     }
     row.push(END)?;
     Ok(row)
 }
 
-/// The blocks of such a row, which may have gaps.
-pub fn blocks_from(alloc: Global, row: &[u32]) -> Result<Lists32, Memory>
-    requires ends { HasEnds row.now }
-    ensures { IfOk result (λ made. (blocks : List (List ℕ)) →
-        AreBelow END blocks → live row.now ≡ marked_row blocks → made ≡ blocks) }
+/// The blocks of such a row, which may have gaps. They stay in the row's own memory.
+pub fn blocks_from(alloc: Global, mut row: Vec<u32>) -> Result<JoinedBlocks, Memory>
+    requires ends { HasEnds row.items }
+    requires few { length row.items < 2 ^ 32 }
+    ensures { IfOk result (λ joined. (blocks : List (List ℕ)) →
+        AreBelow END blocks → live row.items ≡ marked_row blocks → joined ≡ joined_blocks blocks) }
 {
-    let mut blocks = Vec::new(alloc);
-    let mut block = Vec::new(alloc);
+    let lengths = lengths_in(alloc, row.as_slice())?;
+    row.retain(|symbol| *symbol < END);
+    row.shrink_to_fit();
+    Ok(JoinedBlocks {
+        symbols: List32::new(row),
+        lengths: List32::new(lengths),
+    })
+}
+
+// How many symbols each block of such a row has.
+fn lengths_in(alloc: Global, row: &[u32]) -> Result<Vec<u32>, Memory>
+    requires ends { HasEnds row.now }
+    requires few { length row.now < 2 ^ 32 }
+    ensures { IfOk result (λ lengths. (blocks : List (List ℕ)) →
+        AreBelow END blocks → live row.now ≡ marked_row blocks → lengths.items ≡ map length blocks) }
+{
+    let mut lengths = Vec::new(alloc);
+    let mut len = 0;
     let Some((_, rest)) = row.split_first() else {
-        return Ok(Lists32::new(blocks));
+        return Ok(lengths);
     };
     'symbols: for symbol in rest {
         if *symbol == END {
-            blocks.push(List32::new(block))?;
-            block = Vec::new(alloc);
+            lengths.push(len)?;
+            len = 0;
             continue;
         }
         if *symbol == GAP {
             continue;
         }
-        block.push(*symbol)?;
+        len += 1;
     }
-    Ok(Lists32::new(blocks))
+    Ok(lengths)
 }

@@ -126,4 +126,11 @@ impl Text {
         self.next[place] = around.right as u32;
         self.previous[around.right] = place as u32;
     }
+
+    /// The row, with its gaps.
+    pub fn into_symbols(self) -> Vec<u32>
+        ensures { result.items ≡ self.symbols.items }
+    {
+        self.symbols
+    }
 }

@@ -1,6 +1,7 @@
 use Rattle.std.proofs.Common.{◌≡◌, ℕ, ◌+◌, ◌<◌, List, length, map, arith, sym, ◌∙◌, ap, add-zero}
 use Rattle.std.specs.List.{sum_by}
 use Rattle.std.proofs.lemmas.Bool.{ne_eqb}
+use Rattle.repair_grammar.specs.Blocks.{blocks_in, joined_grammar}
 use Rattle.repair_grammar.specs.RePair.{AreBelow, pair_count, block_after_pass}
 use Rattle.repair_grammar.specs.Counts.{IsFirst, AllBelowTwo}
 use Rattle.repair_grammar.specs.Kept.{keys_in}
@@ -19,21 +20,21 @@ use Rattle.repair_grammar.specs.declared.text.TheConstants.{END}
 
 pub count_row-requires-clause-words : goal.count_row-requires-clause-words
 count_row-requires-clause-words c =
-    let is : c.as_slice.result.now ≡ marked_row c.args.blocks.now = c.as_slice.ensures.value ∙ c.in_ok-row.ensures in
-    rw is (word_at (marked_row c.args.blocks.now) (row_words c.args.alphabet c.args.blocks.now
+    let is : c.as_slice.result.now ≡ marked_row (blocks_in c.args.blocks) = c.as_slice.ensures.value ∙ c.in_ok-row.ensures in
+    rw is (word_at (marked_row (blocks_in c.args.blocks)) (row_words c.args.alphabet (blocks_in c.args.blocks)
     (omega (arith, c.requires.small)) c.requires.below))
 
 pub count_row-requires-clause-ends : goal.count_row-requires-clause-ends
 count_row-requires-clause-ends c =
-    let is : c.as_slice.result.now ≡ marked_row c.args.blocks.now = c.as_slice.ensures.value ∙ c.in_ok-row.ensures in
-    rw is (row_ends c.args.blocks.now)
+    let is : c.as_slice.result.now ≡ marked_row (blocks_in c.args.blocks) = c.as_slice.ensures.value ∙ c.in_ok-row.ensures in
+    rw is (row_ends (blocks_in c.args.blocks))
 
 pub new-requires-clause-plain : goal.new-requires-clause-plain
 new-requires-clause-plain c = rw c.in_ok-row.ensures
-    (row_words c.args.alphabet c.args.blocks.now (omega (arith, c.requires.small)) c.requires.below)
+    (row_words c.args.alphabet (blocks_in c.args.blocks) (omega (arith, c.requires.small)) c.requires.below)
 
 pub new-requires-clause-ends : goal.new-requires-clause-ends
-new-requires-clause-ends c = rw c.in_ok-row.ensures (row_ends c.args.blocks.now)
+new-requires-clause-ends c = rw c.in_ok-row.ensures (row_ends (blocks_in c.args.blocks))
 
 pub settle-requires : goal.settle-requires
 settle-requires c = record {
@@ -43,7 +44,7 @@ settle-requires c = record {
 
 pub rounds-init : goal.rounds-init
 rounds-init c =
-    let blocks : List (List ℕ) = c.args.blocks.now in
+    let blocks : List (List ℕ) = blocks_in c.args.blocks in
     let fits : c.args.alphabet < END = omega (arith, c.requires.small) in
     let symbols : c.in_ok-text.text.symbols.items ≡ marked_row blocks =
     c.in_ok-text.ensures.symbols ∙ c.in_ok-row.ensures in
@@ -196,13 +197,19 @@ returns c =
     λ pair. rw (sym (counts_all bound c.rounds.text.symbols.items now (count_of c.rounds.pairs)
     (places_of c.rounds.pairs) small_enough c.rounds.invariant.below c.rounds.invariant.row
     c.rounds.invariant.counted pair)) (counted pair) in
-    let row_is : live c.as_slice-2.result.now ≡ marked_row now =
-    ap live c.as_slice-2.ensures.value ∙ c.rounds.invariant.row in
+    let row_is : live c.into_symbols.result.items ≡ marked_row now =
+    ap live c.into_symbols.ensures ∙ c.rounds.invariant.row in
     record {
       ok = rw (
         c.new-2.ensures,
         c.in_ok-blocks_from.ensures now (below_marks bound now small_enough c.rounds.invariant.below) row_is,
-      ) (sym (rounds-end (sum_by length now) c.args.alphabet
+      ) (ap joined_grammar (sym (rounds-end (sum_by length now) c.args.alphabet
           (record { rules = c.rounds.rules.items; blocks = now }) small)
-          ∙ c.rounds.invariant.left);
+          ∙ c.rounds.invariant.left));
     }
+
+pub blocks_from-requires-clause-ends : goal.blocks_from-requires-clause-ends
+blocks_from-requires-clause-ends c = rw c.into_symbols.ensures c.rounds.invariant.text.ends
+
+pub blocks_from-requires-clause-few : goal.blocks_from-requires-clause-few
+blocks_from-requires-clause-few c = rw c.into_symbols.ensures c.rounds.invariant.text.threads.few

@@ -1,5 +1,6 @@
 use Rattle.std.proofs.Common.{◌≡◌, ℕ, ◌+◌, ◌*◌, ◌≤◌, List, length}
 use Rattle.std.specs.List.{sum_by}
+use Rattle.repair_grammar.specs.Blocks.{blocks_in}
 use Rattle.repair_grammar.specs.RePair.{AreBelow, rounds, re_pair}
 use Rattle.repair_grammar.specs.Kept.{Covers, keys_in}
 use Rattle.repair_grammar.specs.Pairs.{count_of, places_of}
@@ -16,9 +17,9 @@ invariant-rounds l = record {
   counted : IsCounted l.text.symbols.items (count_of l.pairs) (places_of l.pairs);
   keys : Covers (count_of l.pairs) (keys_in l.keys);
   below : AreBelow (l.alphabet + length l.rules.items) now;
-  few : 2 * length l.rules.items + sum_by length now ≤ sum_by length l.blocks;
+  few : 2 * length l.rules.items + sum_by length now ≤ sum_by length (blocks_in l.fn.blocks);
   left : rounds (sum_by length now) l.alphabet (record { rules = l.rules.items; blocks = now })
-      ≡ re_pair l.alphabet l.blocks;
+      ≡ re_pair l.alphabet (blocks_in l.fn.blocks);
 }
 
 abbrev pub decreases-rounds : goal.decreases-rounds
