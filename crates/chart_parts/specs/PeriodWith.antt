@@ -10,6 +10,7 @@ use Rattle.track_types.specs.declared.period_parts.PeriodParts.{PeriodParts}
 use Rattle.k2_tree.specs.Morton.{IsGrid, IsInGrid, morton_of}
 use Rattle.k2_tree.specs.TreeBits.{morton_bits}
 use Rattle.movement_log.specs.Logs.{logs_of}
+use Rattle.repair_grammar.specs.Blocks.{joined_blocks}
 use Rattle.snapshots.specs.View.{widths_in}
 use Rattle.movement_log.specs.declared.head.Head.{Head}
 use Rattle.chart_parts.specs.Leaf.{LeafView}
@@ -23,7 +24,7 @@ chart_blocks chart = record {
   alphabet = (logs_of chart).alphabet;
   heads = (logs_of chart).heads;
   rules = (grammar_of chart).rules;
-  logs = (grammar_of chart).blocks;
+  logs = joined_blocks (grammar_of chart).blocks;
 }
 
 -- the Morton numbers of the cells of headers

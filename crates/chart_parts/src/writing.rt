@@ -1,5 +1,4 @@
-ghost use Rattle.std.specs.Prelude.{◌≡◌, ◌^◌, ◌<◌, All, IfOk, length, map};
-ghost use Rattle.std.specs.List.{flat_map};
+ghost use Rattle.std.specs.Prelude.{◌≡◌, IfOk, length};
 ghost use Rattle.track_types.specs.Chart.{ChartView};
 ghost use Rattle.rule_order.specs.Order.{IsSettled};
 ghost use Rattle.snapshots.specs.Parts.{chart_in};
@@ -11,19 +10,19 @@ ghost use Rattle.chart_parts.specs.PeriodWith.{chart_blocks};
 use crate::header::frame_of;
 use crate::objects::objects_of;
 use crate::periods::periods_of;
-use movement_log::{HeadList, RawLogs, cut};
+use movement_log::{HeadList, JoinedLogs, cut_joined};
 use parts_order::settled;
-use repair_grammar::{Grammar, compress};
-use std::alloc::{AllocError, Global};
-use track_types::{Chart, Frame, List32, List64, Lists32, Memory, PairList, Parts, PeriodList};
+use repair_grammar::{JoinedBlocks, JoinedGrammar, compress_joined};
+use std::alloc::Global;
+use track_types::{Chart, Frame, List32, List64, Memory, PairList, Parts, PeriodList};
 
 /// The parts that a chart is written as: header, objects, alphabet, Re-Pair's rules over the logs of all
 /// blocks, the parts of each period, and the logs that the rules leave, with the rules in order.
 ///
 /// They are those of an index, and hold the very chart that they were made from.
 ///
-/// Beside what `compress` and `settled` take, it takes memory for the parts and for the raw logs,
-/// which are dropped after the rules are made. It takes time for the rows, the terminals, one sort of
+/// Beside what `compress_joined` and `settled` take, it takes memory for the parts and for the raw logs,
+/// which are dropped before rules are made. It takes time for the rows, the terminals, one sort of
 /// each period's anchors and one of the rules. A period without a block costs what its presence bits
 /// take.
 pub fn parts_of(alloc: Global, chart: &Chart) -> Result<Parts, Memory>
@@ -54,7 +53,7 @@ pub fn into_parts(alloc: Global, chart: Chart) -> Result<Parts, Memory>
 pub(crate) struct CutChart {
     pub(crate) frame: Frame,
     pub(crate) objects: Vec<u32>,
-    pub(crate) logs: RawLogs,
+    pub(crate) logs: JoinedLogs,
 }
 
 // Takes from a chart what is written of it.
@@ -64,7 +63,7 @@ fn cut_chart(alloc: Global, chart: &Chart) -> Result<CutChart, Memory>
     Ok(CutChart {
         frame: frame_of(chart),
         objects: objects_of(alloc, chart.rows())?,
-        logs: cut(alloc, chart)?,
+        logs: cut_joined(alloc, chart)?,
     })
 }
 
@@ -96,16 +95,20 @@ fn compressed_parts(alloc: Global, chart: CutChart) -> Result<Parts, Memory>
         logs,
     } = blocks_of(alloc, logs)?;
     let count = objects.len() as u32;
-    let lengths = lengths_of(alloc, logs.as_slice())?;
-    let periods = periods_of(alloc, frame, count, heads.as_slice(), lengths.as_slice())?;
-    let symbols = joined(alloc, logs.as_slice())?;
+    let periods = periods_of(
+        alloc,
+        frame,
+        count,
+        heads.as_slice(),
+        logs.lengths.as_slice(),
+    )?;
     Ok(Parts {
         frame,
         objects: List32::new(objects),
         alphabet,
         rules,
         periods: PeriodList::new(periods),
-        symbols: List32::new(symbols),
+        symbols: logs.symbols,
     })
 }
 
@@ -115,49 +118,31 @@ pub(crate) struct Blocks {
     pub(crate) alphabet: List64,
     pub(crate) heads: HeadList,
     pub(crate) rules: PairList,
-    pub(crate) logs: Lists32,
+    pub(crate) logs: JoinedBlocks,
 }
 
-// The blocks with these raw logs. The terminals are dropped when the rules are made.
-fn blocks_of(alloc: Global, raw: RawLogs) -> Result<Blocks, Memory>
+// The blocks with these raw logs. The terminals are dropped before rules are made.
+fn blocks_of(alloc: Global, raw: JoinedLogs) -> Result<Blocks, Memory>
     requires { AreLogs raw }
     ensures { (chart : ChartView) → AreLogsOf chart raw
         → IfOk result (λ blocks. blocks ≡ chart_blocks chart) }
 {
-    let RawLogs {
+    let JoinedLogs {
         alphabet,
         heads,
         terminals,
+        lengths,
     } = raw;
     let size = alphabet.as_slice().len() as u32;
-    let Grammar { rules, blocks } = compress(alloc, size, &terminals)?;
+    let raw = JoinedBlocks {
+        symbols: terminals,
+        lengths,
+    };
+    let JoinedGrammar { rules, blocks } = compress_joined(alloc, size, raw)?;
     Ok(Blocks {
         alphabet,
         heads,
         rules,
         logs: blocks,
     })
-}
-
-// How many symbols each log has.
-fn lengths_of(alloc: Global, logs: &[List32]) -> Result<Vec<u32>, AllocError>
-    requires { All (λ log. length log < 2 ^ 32) logs.now }
-    ensures { IfOk result (λ lengths. lengths.items ≡ map length logs.now) }
-{
-    let mut lengths = Vec::with_capacity(alloc, logs.len())?;
-    for log in logs {
-        lengths.push(log.as_slice().len() as u32)?;
-    }
-    Ok(lengths)
-}
-
-// The symbols of all logs, one log after the other.
-fn joined(alloc: Global, logs: &[List32]) -> Result<Vec<u32>, AllocError>
-    ensures { IfOk result (λ symbols. symbols.items ≡ flat_map (λ log. log) logs.now) }
-{
-    let mut symbols = Vec::new(alloc);
-    for log in logs {
-        symbols.extend_from_slice(log.as_slice())?;
-    }
-    Ok(symbols)
 }

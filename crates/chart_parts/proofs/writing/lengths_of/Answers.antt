@@ -1,9 +1,0 @@
-use Rattle.std.proofs.Common.{arith}
-use Rattle.std.proofs.lemmas.Grind.{common_steps}
-use Rattle.chart_parts.proofs.writing.lengths_of.Goals as goal
-
-pub loop-log-preserved : goal.loop-log-preserved
-loop-log-preserved c = grind (arith, common_steps)
-
-pub returns : goal.returns
-returns c = grind (arith, common_steps)
