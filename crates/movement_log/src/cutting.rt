@@ -19,22 +19,17 @@ use track_types::{Chart, List32, List64, Lists32, Memory};
 pub fn cut(alloc: Global, chart: &Chart) -> Result<RawLogs, Memory>
     ensures ok { IfOk result (λ logs. logs ≡ logs_of chart.now) }
 {
-    let JoinedLogs {
-        alphabet,
-        heads,
-        terminals,
-        lengths,
-    } = cut_joined(alloc, chart)?;
-    let mut logs = Vec::with_capacity(alloc, lengths.as_slice().len())?;
-    let mut rest = terminals.as_slice();
-    for len in lengths.as_slice() {
+    let joined = cut_joined(alloc, chart)?;
+    let mut logs = Vec::with_capacity(alloc, joined.lengths.as_slice().len())?;
+    let mut rest = joined.terminals.as_slice();
+    for len in joined.lengths.as_slice() {
         let (log, behind) = rest.split_at(*len as usize);
         logs.push(List32::new(log.to_vec(alloc)?))?;
         rest = behind;
     }
     Ok(RawLogs {
-        alphabet,
-        heads,
+        alphabet: joined.alphabet,
+        heads: joined.heads,
         terminals: Lists32::new(logs),
     })
 }

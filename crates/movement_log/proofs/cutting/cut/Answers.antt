@@ -8,14 +8,14 @@ use Rattle.movement_log.proofs.cutting.cut.Goals as goal
 pub loop-len-init : goal.loop-len-init
 loop-len-init c = record {
   logs = c.in_ok-logs.ensures.items;
-  rest = c.as_slice-rest.ensures ∙ ap (λ logs. logs.terminals) c.in_ok-alphabet.ensures.ok;
+  rest = c.as_slice-rest.ensures ∙ ap (λ logs. logs.terminals) c.in_ok-joined.ensures.ok;
 }
 
 pub split_at-requires : goal.split_at-requires
 split_at-requires c =
     let logs : List (List ℕ) = (logs_of c.args.chart.now).terminals in
     let i : ℕ = c.loop-len.len-index in
-    let lengths = c.as_slice-len-items.ensures ∙ ap (λ logs. logs.lengths) c.in_ok-alphabet.ensures.ok in
+    let lengths = c.as_slice-len-items.ensures ∙ ap (λ logs. logs.lengths) c.in_ok-joined.ensures.ok in
     let within : i < length logs = omega (arith, c.loop-len-test.true, ap length lengths, length-map logs length) in
     let long = ap (λ all. get_or all i 0) lengths ∙ get_or-map length logs i [] in
     rw c.loop-len.invariant.rest (log_fits logs i (get_or c.as_slice-len-items.result.now i 0) within long)
@@ -24,7 +24,7 @@ pub loop-len-preserved : goal.loop-len-preserved
 loop-len-preserved c =
     let logs : List (List ℕ) = (logs_of c.args.chart.now).terminals in
     let i : ℕ = c.loop-len.len-index in
-    let lengths = c.as_slice-len-items.ensures ∙ ap (λ logs. logs.lengths) c.in_ok-alphabet.ensures.ok in
+    let lengths = c.as_slice-len-items.ensures ∙ ap (λ logs. logs.lengths) c.in_ok-joined.ensures.ok in
     let len : ℕ = get_or c.as_slice-len-items.result.now i 0 in
     let within : i < length logs = omega (arith, c.loop-len-test.true, ap length lengths, length-map logs length) in
     let long = ap (λ all. get_or all i 0) lengths ∙ get_or-map length logs i [] in
@@ -41,7 +41,7 @@ pub returns : goal.returns
 unfolding logs_of
 returns c =
     let logs : List (List ℕ) = (logs_of c.args.chart.now).terminals in
-    let is = c.in_ok-alphabet.ensures.ok in
+    let is = c.in_ok-joined.ensures.ok in
     let lengths = c.as_slice-len-items.ensures ∙ ap (λ logs. logs.lengths) is in
     let whole : take c.loop-len.len-index logs ≡ logs =
     take_all c.loop-len.len-index logs (omega (arith, c.loop-len-test.false, ap length lengths, length-map logs length)) in
