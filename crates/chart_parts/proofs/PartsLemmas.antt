@@ -6,7 +6,7 @@ use Rattle.std.proofs.lemmas.List.FromFn.{length-map-range_with_len}
 use Rattle.track_types.specs.Chart.{ChartView, IsChart}
 use Rattle.track_types.specs.Frame.{periods_of}
 use Rattle.track_types.specs.Quantities.{objects_of}
-use Rattle.track_types.specs.Shape.{AreShort, IsShaped}
+use Rattle.track_types.specs.PartsForm.{AreShort, IsShaped}
 use Rattle.snapshots.specs.View.{all_blocks}
 use Rattle.snapshots.specs.Parts.{rules_in, snapshot_in, chart_in}
 use Rattle.snapshots.specs.SoundParts.{AreSoundLogs, IsSound, IsSoundLog, IsValid}

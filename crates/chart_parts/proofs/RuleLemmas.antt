@@ -33,7 +33,7 @@ use Rattle.snapshots.specs.SoundParts.{AreSoundRules, IsInReach, IsRule, IsShort
 use Rattle.spiral_code.specs.Spiral.{square}
 use Rattle.spiral_code.proofs.SpiralLemmas.{move_of-below}
 use Rattle.track_types.specs.Limits.{limit_of}
-use Rattle.track_types.specs.Shape.{AreLong, AreShort, AreShortPairs, width_for, symbol_width}
+use Rattle.track_types.specs.PartsForm.{AreLong, AreShort, AreShortPairs, width_for, symbol_width}
 use Rattle.track_types.specs.declared.limit.LimitKind.TheVariants.{Symbols}
 use Rattle.track_types.specs.declared.limit.TheConstants.{MAX_HEIGHT}
 use Rattle.rule_store.proofs.FlawLemmas.{reach_limit-high}

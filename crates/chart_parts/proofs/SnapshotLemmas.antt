@@ -25,7 +25,7 @@ use Rattle.snapshots.specs.Parts.{snapshot_in, start_in, numbers_in}
 use Rattle.movement_log.specs.Logs.{anchors_in}
 use Rattle.snapshots.proofs.SoundLemmas.{IsGrid-frame, wide_of-fits}
 use Rattle.bit_rank.proofs.RankLemmas.{ones_of-le-length}
-use Rattle.track_types.specs.Shape.{AreShort, IsShapedPeriod}
+use Rattle.track_types.specs.PartsForm.{AreShort, IsShapedPeriod}
 use Rattle.k2_tree.proofs.BuiltLemmas.{few_bits}
 use Rattle.chart_parts.specs.Header.{frame_of}
 use Rattle.chart_parts.specs.LeafOrder.{distinct_codes, leaf_codes, leaf_order, ends_of}

@@ -2,7 +2,7 @@
 use Rattle.std.specs.Prelude.{◌≡◌}
 use Rattle.track_types.specs.Chart.{ChartView, IsChart}
 use Rattle.track_types.specs.Quantities.{objects_of}
-use Rattle.track_types.specs.Shape.{AreShort}
+use Rattle.track_types.specs.PartsForm.{AreShort}
 use Rattle.movement_log.specs.Logs.{joined_logs, logs_of}
 use Rattle.movement_log.specs.declared.raw_logs.JoinedLogs.{JoinedLogs}
 use Rattle.chart_parts.specs.Header.{frame_of}

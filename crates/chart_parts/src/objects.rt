@@ -2,7 +2,7 @@ ghost use Rattle.std.specs.Prelude.{◌≡◌, IfOk, drop, nat_le};
 ghost use Rattle.std.specs.List.{prefix_len};
 ghost use Rattle.track_types.specs.Quantities.{objects_of};
 ghost use Rattle.track_types.specs.Row.{IsAscending};
-ghost use Rattle.track_types.specs.Shape.{AreShort};
+ghost use Rattle.track_types.specs.PartsForm.{AreShort};
 
 use std::alloc::{AllocError, Global};
 use track_types::Row;

@@ -1,6 +1,6 @@
 -- The bytes of an index file, and the parts that bytes hold, in each version of the format.
 use Rattle.std.specs.Prelude.{◌≡◌, ℕ, false, if◌then◌else◌, List, length, Result, Ok}
-use Rattle.track_types.specs.Shape.{IsShaped}
+use Rattle.track_types.specs.PartsForm.{IsShaped}
 use Rattle.track_types.specs.declared.flaw.Flaw.{Flaw}
 use Rattle.track_types.specs.declared.limit.TheConstants.{MAX_VERSION}
 use Rattle.track_types.specs.declared.parts.Parts.{Parts}

@@ -7,7 +7,7 @@ use Rattle.list_laws.proofs.IncreasingLemmas.{increasing-below}
 use Rattle.spiral_code.specs.Spiral.{square}
 use Rattle.rule_store.specs.Flaws.{code_flaw, reach_limit}
 use Rattle.rule_store.proofs.FlawLemmas.{code_flaw-none, leads_out-below, value-short}
-use Rattle.track_types.specs.Shape.{AreShort}
+use Rattle.track_types.specs.PartsForm.{AreShort}
 use Rattle.track_types.specs.declared.limit.TheConstants.{MAX_HEIGHT}
 use Rattle.index_format.specs.Fields.{items_at}
 use Rattle.index_format.specs.OutlineLists.{value_in}

@@ -18,7 +18,7 @@ use Rattle.packed_bits.proofs.WordLemmas.{length-low_bits}
 use Rattle.spiral_code.specs.Spiral.{code_of, move_of, ring_of, square}
 use Rattle.spiral_code.proofs.SpiralLemmas.{code_of-below}
 use Rattle.track_types.proofs.RegionLemmas.{le_z-is}
-use Rattle.track_types.specs.Shape.{width_for}
+use Rattle.track_types.specs.PartsForm.{width_for}
 use Rattle.track_types.specs.declared.cell.Cell.{Cell}
 use Rattle.track_types.specs.declared.limit.TheConstants.{MAX_HEIGHT}
 use Rattle.rule_store.specs.Cells.{cells_along, displacement_of, moved, present_in}

@@ -17,7 +17,7 @@ use Rattle.rule_store.specs.View.{RulesView, symbols_in}
 use Rattle.rule_store.proofs.ExpansionLemmas.{expansion_of-rule, expansion_of-terminal, length-values_of}
 use Rattle.rule_store.proofs.FlawLemmas.{rule-sound}
 use Rattle.track_types.specs.Limits.{limit_of}
-use Rattle.track_types.specs.Shape.{width_for}
+use Rattle.track_types.specs.PartsForm.{width_for}
 use Rattle.track_types.specs.declared.cell.Cell.{Cell}
 use Rattle.track_types.specs.declared.flaw.Flaw.{Flaw}
 use Rattle.track_types.specs.declared.flaw.Kind.{Kind}

@@ -1,6 +1,6 @@
 -- The file of 123 bytes, the same parts in the 116 bytes of version 2, and what is said of damaged ones.
 use Rattle.std.proofs.Common.{◌≡◌, ℕ, ◌+◌, pos, true, false, List, [], ◌∷◌, ◌++◌, length, take, Ok, Err, refl}
-use Rattle.track_types.specs.Shape.{width_for}
+use Rattle.track_types.specs.PartsForm.{width_for}
 use Rattle.track_types.specs.declared.flaw.Kind.TheVariants.{Short, Magic, Field, Extra, Pad}
 use Rattle.track_types.specs.declared.flaw.Section.TheVariants.{Header, Presence, Log, End}
 use Rattle.track_types.specs.declared.parts.Parts.{Parts}

@@ -8,7 +8,7 @@ use Rattle.std.proofs.lemmas.List.{length-append}
 use Rattle.std.proofs.lemmas.List.Elements.{All-weaker}
 use Rattle.packed_bits.proofs.OnesLemmas.{ones_of-le-length}
 use Rattle.list_laws.proofs.LengthLemmas.{length-flat_map-alike, length-flat_map-within}
-use Rattle.track_types.specs.Shape.{IsShapedPeriod, width_for, symbol_width}
+use Rattle.track_types.specs.PartsForm.{IsShapedPeriod, width_for, symbol_width}
 use Rattle.track_types.specs.declared.parts.Parts.{Parts}
 use Rattle.track_types.specs.declared.period_parts.PeriodParts.{PeriodParts}
 use Rattle.index_format.specs.declared.header.Header.{Header}

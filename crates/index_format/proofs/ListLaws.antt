@@ -7,7 +7,7 @@ use Rattle.std.proofs.lemmas.Bool.{lt-ltb, ltb-true, cases_lt}
 use Rattle.std.proofs.lemmas.Bool.Decides.{nat_tests}
 use Rattle.std.proofs.lemmas.List.Elements.{All-nil}
 use Rattle.list_laws.proofs.FrontLemmas.{All-front, All-last, All-snoc, IsStrictlyIncreasing-front, IsStrictlyIncreasing-last, IsStrictlyIncreasing-snoc}
-use Rattle.track_types.specs.Shape.{AreShort, AreShortPairs}
+use Rattle.track_types.specs.PartsForm.{AreShort, AreShortPairs}
 use Rattle.track_types.specs.declared.flaw.Section.{Section}
 use Rattle.track_types.specs.declared.flaw.Section.TheVariants.{Rules}
 use Rattle.track_types.specs.declared.flaw.Kind.TheVariants.{Short}

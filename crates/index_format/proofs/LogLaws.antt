@@ -5,7 +5,7 @@ use Rattle.std.proofs.Math.Nat.{pow-le-pow_right}
 use Rattle.std.proofs.lemmas.Bool.{cases_lt, lt-ltb, le-ltb}
 use Rattle.std.proofs.lemmas.List.Elements.{All-weaker}
 use Rattle.std.proofs.lemmas.Result.{IfOk-weaker}
-use Rattle.track_types.specs.Shape.{AreShort}
+use Rattle.track_types.specs.PartsForm.{AreShort}
 use Rattle.track_types.specs.declared.flaw.Section.TheVariants.{Log}
 use Rattle.index_format.specs.Fields.{items_at, short_at, bits_at, packed_at, log_at}
 use Rattle.index_format.specs.Spelling.{bit_bytes, bits_with, log_bytes}

@@ -13,7 +13,7 @@ use Rattle.rule_store.specs.Entry.{entry_of}
 use Rattle.rule_store.specs.Expansion.{expansion_of, values_of}
 use Rattle.rule_store.specs.Flaws.{is_rule_flawed}
 use Rattle.rule_store.specs.Log.{log_values}
-use Rattle.track_types.specs.Shape.{width_for}
+use Rattle.track_types.specs.PartsForm.{width_for}
 use Rattle.track_types.specs.declared.flaw.Kind.TheVariants as kind
 use Rattle.track_types.specs.declared.flaw.Section.TheVariants as section
 use Rattle.index_format.specs.Spelling.{short_bytes, long_bytes, signed_bytes, symbols_bytes, size_bytes, fields_bytes, header_bytes}

@@ -6,7 +6,7 @@ use Rattle.std.specs.Int.{w32, w64}
 use Rattle.std.proofs.lemmas.Bool.{eqb-true, ltb-false, ltb-true}
 use Rattle.std.proofs.lemmas.List.{nil_from_length}
 use Rattle.track_types.specs.Frame.{periods_of}
-use Rattle.track_types.specs.Shape.{width_for, symbol_width}
+use Rattle.track_types.specs.PartsForm.{width_for, symbol_width}
 use Rattle.track_types.specs.declared.flaw.Section.TheVariants.{Objects, Alphabet}
 use Rattle.track_types.specs.declared.parts.Parts.{Parts}
 use Rattle.index_format.specs.Spelling.{short_bytes, long_bytes, rule_bytes, period_bytes, log_bytes, says_symbols, header_of, parts_bytes}

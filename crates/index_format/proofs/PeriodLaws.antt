@@ -7,7 +7,7 @@ use Rattle.std.proofs.lemmas.Bool.Decides.{nat_tests}
 use Rattle.std.proofs.lemmas.List.Elements.{All-nil}
 use Rattle.list_laws.proofs.FrontLemmas.{All-front, All-last, All-snoc}
 use Rattle.packed_bits.specs.Bits.{ones_of}
-use Rattle.track_types.specs.Shape.{IsShapedPeriod}
+use Rattle.track_types.specs.PartsForm.{IsShapedPeriod}
 use Rattle.track_types.specs.declared.flaw.Section.TheVariants.{Presence, Offsets, TreeLen, Tree, Lasts, Perm, Lengths}
 use Rattle.track_types.specs.declared.flaw.Kind.TheVariants.{Short}
 use Rattle.track_types.specs.declared.limit.TheConstants.{MAX_TREE}

@@ -9,7 +9,7 @@ use Rattle.rule_store.specs.Log.{log_values}
 use Rattle.rule_store.specs.View.{RulesView, symbols_in}
 use Rattle.track_types.specs.Frame.{IsFrame, periods_of, instants_in}
 use Rattle.track_types.specs.Limits.{limit_of}
-use Rattle.track_types.specs.Shape.{AreShort}
+use Rattle.track_types.specs.PartsForm.{AreShort}
 use Rattle.track_types.specs.declared.cell.Cell.{Cell}
 use Rattle.track_types.specs.declared.frame.Frame.{Frame}
 use Rattle.track_types.specs.declared.limit.LimitKind.TheVariants.{Objects, Blocks, Symbols}

@@ -12,7 +12,7 @@ use Rattle.rule_store.specs.Log.{log_values}
 use Rattle.rule_store.specs.View.{RulesView, symbols_in}
 use Rattle.rule_store.specs.declared.entry.Entry.{Entry}
 use Rattle.track_types.specs.Limits.{limit_of}
-use Rattle.track_types.specs.Shape.{width_for}
+use Rattle.track_types.specs.PartsForm.{width_for}
 use Rattle.track_types.specs.declared.cell.Cell.{Cell}
 use Rattle.track_types.specs.declared.cell_box.CellBox.{CellBox}
 use Rattle.track_types.specs.declared.flaw.Kind.TheVariants.{Offset, OffGrid, Total, Symbol, Duration}

@@ -7,7 +7,7 @@ unfoldable pub use Rattle.bit_stream.specs.Bytes.{bits_in, bytes_filled, bit_byt
 pub use Rattle.bit_stream.specs.Bytes.{bytes_for}
 use Rattle.index_format.specs.declared.header.Header.{Header}
 use Rattle.index_format.specs.declared.header.Sizes.{Sizes}
-use Rattle.track_types.specs.Shape.{symbol_width}
+use Rattle.track_types.specs.PartsForm.{symbol_width}
 use Rattle.track_types.specs.declared.parts.Parts.{Parts}
 use Rattle.track_types.specs.declared.period_parts.PeriodParts.{PeriodParts}
 

@@ -1,6 +1,6 @@
 -- What the bytes of an index file store in each version, or their first flaw.
 use Rattle.std.specs.Prelude.{ℕ, ◌≤◌, if◌then◌else◌, List, Result, Ok}
-use Rattle.track_types.specs.Shape.{IsShaped}
+use Rattle.track_types.specs.PartsForm.{IsShaped}
 use Rattle.track_types.specs.declared.flaw.Flaw.{Flaw}
 use Rattle.track_types.specs.declared.parts.Parts as whole
 use Rattle.index_format.specs.declared.header.Header as headers

@@ -1,6 +1,6 @@
 ghost use Rattle.std.specs.Prelude.{◌≡◌, ◌<◌, ◌≤◌, ◌^◌, ◌++◌, length, [], ◌∷◌, IfOk, OnOk};
 ghost use Rattle.std.specs.Int.{w64, cast_unsigned};
-ghost use Rattle.track_types.specs.Shape.{IsShaped};
+ghost use Rattle.track_types.specs.PartsForm.{IsShaped};
 ghost use Rattle.track_types.specs.declared.limit.TheConstants.{MAX_VERSION};
 ghost use Rattle.index_format.specs.Stored.{AreOldParts};
 ghost use Rattle.index_format.specs.Spelling.{header_bytes, period_bytes, size_bytes, header_of, sizes_of, bytes_of_parts};

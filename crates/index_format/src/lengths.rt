@@ -1,5 +1,5 @@
 ghost use Rattle.std.specs.Prelude.{◌≡◌, ◌≤◌, ◌<◌, ◌^◌, length};
-ghost use Rattle.track_types.specs.Shape.{IsShapedPeriod};
+ghost use Rattle.track_types.specs.PartsForm.{IsShapedPeriod};
 ghost use Rattle.index_format.specs.Stored.{AreOldParts};
 ghost use Rattle.index_format.specs.Spelling.{bytes_for, bytes_of_parts, period_bytes};
 

@@ -1,5 +1,5 @@
 ghost use Rattle.std.specs.Prelude.{◌≡◌, ◌+◌, ◌++◌, ◌≤◌, ◌^◌, length, OnOk};
-ghost use Rattle.track_types.specs.Shape.{IsShaped, symbol_width, width_for};
+ghost use Rattle.track_types.specs.PartsForm.{IsShaped, symbol_width, width_for};
 ghost use Rattle.track_types.specs.declared.limit.TheConstants.{MAX_SYMBOLS};
 ghost use Rattle.index_format.specs.Answers.{Gives};
 ghost use Rattle.index_format.specs.Fields.{log_at};

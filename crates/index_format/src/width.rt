@@ -1,5 +1,5 @@
 ghost use Rattle.std.specs.Prelude.{◌≡◌, ◌≤◌, ◌^◌};
-ghost use Rattle.track_types.specs.Shape.{width_for};
+ghost use Rattle.track_types.specs.PartsForm.{width_for};
 
 /// How many bits a symbol takes at most.
 const WIDEST: u32 = 26;

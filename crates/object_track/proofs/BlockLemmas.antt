@@ -8,7 +8,7 @@ use Rattle.std.proofs.lemmas.List.Elements.{All-get_or}
 use Rattle.std.proofs.lemmas.Option.{slice_get_within}
 use Rattle.list_laws.proofs.RangeLemmas.{All-from_filter_map}
 use Rattle.track_types.specs.Frame.{periods_of, IsFrame}
-use Rattle.track_types.specs.Shape.{IsShapedPeriod}
+use Rattle.track_types.specs.PartsForm.{IsShapedPeriod}
 use Rattle.track_types.specs.Near.{IsCellAsked}
 use Rattle.track_types.specs.declared.cell.Cell.{Cell}
 use Rattle.track_types.specs.declared.cell_box.CellBox.{CellBox}

@@ -16,7 +16,7 @@ use Rattle.object_perm.proofs.InverseLemmas.{at-inverse_of}
 use Rattle.object_perm.proofs.OntoLemmas.{inverse_of-within}
 use Rattle.track_types.specs.Frame.{instants_in, wide_of}
 use Rattle.track_types.specs.Limits.{limit_of}
-use Rattle.track_types.specs.Shape.{AreShort, IsShapedPeriod}
+use Rattle.track_types.specs.PartsForm.{AreShort, IsShapedPeriod}
 use Rattle.track_types.specs.declared.frame.Frame.{Frame}
 use Rattle.track_types.specs.declared.limit.LimitKind.TheVariants.{Objects}
 use Rattle.track_types.specs.declared.limit.TheConstants.{MAX_PERIOD}

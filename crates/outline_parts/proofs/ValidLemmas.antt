@@ -7,7 +7,7 @@ use Rattle.std.proofs.lemmas.List.Elements.{All-from_get_or, All-get_or, All-map
 use Rattle.std.proofs.lemmas.List.FromFn.{length-map-range_with_len}
 use Rattle.list_laws.proofs.NumberLemmas.{least_power}
 use Rattle.track_types.specs.Frame.{periods_of}
-use Rattle.track_types.specs.Shape.{AreLong, AreShortPairs, IsShaped, IsShapedPeriod, width_for}
+use Rattle.track_types.specs.PartsForm.{AreLong, AreShortPairs, IsShaped, IsShapedPeriod, width_for}
 use Rattle.track_types.specs.declared.parts.Parts.{Parts}
 use Rattle.rule_store.specs.Entry.{entry_of}
 use Rattle.rule_store.specs.Expansion.{expansion_of, values_of}

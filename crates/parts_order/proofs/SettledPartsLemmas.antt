@@ -6,7 +6,7 @@ use Rattle.std.proofs.lemmas.List.{get_or-map, get_or_default, length-map, same_
 use Rattle.std.proofs.lemmas.List.Elements.{All-from_get_or, All-weaker}
 use Rattle.list_laws.proofs.KeyedLemmas.{flat_map_alike}
 use Rattle.list_laws.proofs.NumberLemmas.{least_power}
-use Rattle.track_types.specs.Shape.{IsShaped, symbol_width, width_for}
+use Rattle.track_types.specs.PartsForm.{IsShaped, symbol_width, width_for}
 use Rattle.track_types.specs.declared.parts.Parts.{Parts}
 use Rattle.rule_store.specs.Entry.{entry_of}
 use Rattle.rule_store.specs.Expansion.{depth_in, values_of}

@@ -14,7 +14,7 @@ use Rattle.list_laws.proofs.GreatestLemmas.{fold_max-each}
 use Rattle.list_laws.proofs.MapLemmas.{All-from_map}
 use Rattle.track_types.specs.Frame.{periods_of, IsFrame}
 use Rattle.track_types.specs.Limits.{limit_of}
-use Rattle.track_types.specs.Shape.{IsShapedPeriod}
+use Rattle.track_types.specs.PartsForm.{IsShapedPeriod}
 use Rattle.track_types.specs.declared.cell.Cell.{Cell}
 use Rattle.track_types.specs.declared.cell_box.CellBox.{CellBox}
 use Rattle.track_types.specs.declared.frame.Frame.{Frame}

@@ -8,7 +8,7 @@ use Rattle.list_laws.proofs.FlatLemmas.{sum_by-map}
 use Rattle.list_laws.proofs.NumberLemmas.{least_power}
 use Rattle.track_types.specs.Chart.{ChartView}
 use Rattle.track_types.specs.Frame.{IsFrame, periods_of, wide_of}
-use Rattle.track_types.specs.Shape.{IsShaped, IsShapedPeriod, width_for, symbol_width}
+use Rattle.track_types.specs.PartsForm.{IsShaped, IsShapedPeriod, width_for, symbol_width}
 use Rattle.track_types.specs.declared.cell.Cell.{Cell}
 use Rattle.track_types.specs.declared.cell_box.CellBox.{CellBox}
 use Rattle.track_types.specs.declared.frame.Frame.{Frame}

@@ -4,7 +4,7 @@ use Rattle.std.specs.Prelude.{◌≡◌, ℕ, ◌+◌, ◌-◌, ◌^◌, ◌<◌
 use Rattle.std.specs.Prelude.{ℤ, IfSome}
 use Rattle.spiral_code.specs.Spiral.{ring_of}
 use Rattle.track_types.specs.Frame.{periods_of}
-use Rattle.track_types.specs.Shape.{IsShaped}
+use Rattle.track_types.specs.PartsForm.{IsShaped}
 use Rattle.track_types.specs.declared.cell.Cell.{Cell}
 use Rattle.track_types.specs.declared.cell_box.CellBox.{CellBox}
 use Rattle.track_types.specs.declared.frame.Frame.{Frame}

@@ -1,7 +1,7 @@
 ghost use Rattle.std.specs.Prelude.{◌≡◌, ℕ, ◌+◌, ◌<◌, ◌≤◌, [], None, length, slice_get, IfErr, IfNone, IfOk, IfSome, OnOk, Some};
 ghost use Rattle.step_count.specs.Reads.{is_of_period, ofPeriod, AllMay, ReadsWithin};
 ghost use Rattle.track_types.specs.Frame.{periods_of};
-ghost use Rattle.track_types.specs.Shape.{IsShaped};
+ghost use Rattle.track_types.specs.PartsForm.{IsShaped};
 ghost use Rattle.snapshots.specs.Bounded.{AreBounds};
 ghost use Rattle.snapshots.specs.Flaws.{IsSnapFaultFor};
 ghost use Rattle.snapshots.specs.IndexCost.{open_cost};

@@ -4,7 +4,7 @@ use Rattle.std.specs.List.{range_with_len}
 use Rattle.std.specs.Option.{option_and_then, option_map, option_or}
 use Rattle.list_laws.proofs.FirstLemmas.{first_given-map, first_of_range-all, first_of_range-none, or-none}
 use Rattle.track_types.specs.Frame.{periods_of}
-use Rattle.track_types.specs.Shape.{IsShaped}
+use Rattle.track_types.specs.PartsForm.{IsShaped}
 use Rattle.track_types.specs.declared.parts.Parts.{Parts}
 use Rattle.rule_store.specs.View.{RulesView, symbols_in}
 use Rattle.rule_store.specs.Flaws.{code_flaw, rule_flaw, rules_flaw, symbol_flaw}

@@ -10,7 +10,7 @@ use Rattle.track_types.specs.Flaws.{IsFormatFaultFor}
 use Rattle.track_types.specs.Frame.{periods_of}
 use Rattle.track_types.specs.Limits.{limit_of}
 use Rattle.track_types.specs.declared.limit.LimitKind.TheVariants.{Symbols}
-use Rattle.track_types.specs.Shape.{IsShaped}
+use Rattle.track_types.specs.PartsForm.{IsShaped}
 use Rattle.track_types.specs.declared.parts.Parts.{Parts}
 use Rattle.track_types.specs.declared.period_parts.PeriodParts.{PeriodParts}
 use Rattle.rule_store.specs.Flaws.{format_fault_of_rules, rules_flaw, IsRuleFaultFor}

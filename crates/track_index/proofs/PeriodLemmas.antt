@@ -11,7 +11,7 @@ use Rattle.std.proofs.lemmas.List.Sums.{sum_by_more, sum_by_more_le}
 use Rattle.list_laws.proofs.FirstLemmas.{first_given-map, first_of_range-all, first_of_range-at, first_of_range-none}
 use Rattle.track_types.specs.Flaws.{IsFormatFaultFor}
 use Rattle.track_types.specs.Frame.{periods_of}
-use Rattle.track_types.specs.Shape.{IsShapedPeriod}
+use Rattle.track_types.specs.PartsForm.{IsShapedPeriod}
 use Rattle.track_types.specs.declared.frame.Frame.{Frame}
 use Rattle.track_types.specs.declared.limit.TheConstants.{MAX_SPAN, MAX_SYMBOLS}
 use Rattle.track_types.specs.declared.period_parts.PeriodParts.{PeriodParts}

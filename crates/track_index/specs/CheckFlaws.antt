@@ -7,7 +7,7 @@ use Rattle.list_laws.specs.First.{first_given}
 use Rattle.track_types.specs.Flaws.{fault_flaw, flaw_in}
 use Rattle.track_types.specs.Frame.{IsFrame, periods_of}
 use Rattle.track_types.specs.Limits.{limit_of}
-use Rattle.track_types.specs.Shape.{IsShapedPeriod}
+use Rattle.track_types.specs.PartsForm.{IsShapedPeriod}
 use Rattle.track_types.specs.declared.flaw.Flaw.{Flaw}
 use Rattle.track_types.specs.declared.flaw.Kind.TheVariants as kind
 use Rattle.track_types.specs.declared.flaw.Section.TheVariants as section

@@ -1,7 +1,7 @@
 ghost use Rattle.std.specs.Prelude.{◌≡◌, ◌+◌, ◌*◌, ◌≤◌, None, IfErr, IfOk, OnOk};
 ghost use Rattle.step_count.specs.Reads.{AllMay};
 ghost use Rattle.track_types.specs.Flaws.{IsFormatFaultFor};
-ghost use Rattle.track_types.specs.Shape.{IsShaped};
+ghost use Rattle.track_types.specs.PartsForm.{IsShaped};
 ghost use Rattle.snapshots.specs.IndexCost.{open_cost};
 ghost use Rattle.snapshots.specs.Parts.{chart_in};
 ghost use Rattle.index_file.specs.File.{IsNewest};

@@ -6,7 +6,7 @@ use Rattle.track_types.specs.Frame.{end_in, first_in, instants_in, last_in, peri
 use Rattle.track_types.specs.Boxes.{box_from, cut_box, joined_box, moved_box, touches}
 use Rattle.track_types.specs.Timeline.{terminals_from}
 use Rattle.track_types.specs.declared.cell_box.CellBox.{CellBox}
-use Rattle.track_types.specs.Shape.{width_for}
+use Rattle.track_types.specs.PartsForm.{width_for}
 use Rattle.track_types.specs.declared.frame.Frame.{Frame}
 use Rattle.track_types.specs.Quantities.{anchors_of, block_count, distinct, extent_of, first_of, last_of, object_count, objects_of, period_count, span_of, symbol_count}
 use Rattle.track_types.specs.declared.cell.Cell.{Cell}

@@ -10,12 +10,11 @@ use Rattle.std.specs.Int.Signed.{le_z}
 use Rattle.std.proofs.Math.Nat.{mul-le-mul}
 use Rattle.std.proofs.lemmas.Bool.{and_from, and_parts, le-leb, leb-true}
 use Rattle.std.proofs.lemmas.Int.{clamps, ints}
-use Rattle.track_types.specs.Region.{Intersects, in_box, in_region, in_shape, is_between, nearest_cell, overlaps, squared_distance, squared_gap, intersects_region}
-use Rattle.track_types.specs.Region.{intersects_shape}
+use Rattle.track_types.specs.Region.{AnyShape, Intersects, OneShape, RegionShapes, in_box, in_shape, in_shapes, is_between, nearest_cell}
+use Rattle.track_types.specs.Region.{intersects_region, intersects_shape, intersects_shapes, overlaps, region_shapes, squared_distance, squared_gap}
 use Rattle.track_types.specs.declared.cell.Cell.{Cell}
 use Rattle.track_types.specs.declared.cell_box.CellBox.{CellBox}
 use Rattle.track_types.specs.declared.region.Region.{Region}
-use Rattle.track_types.specs.declared.region.Region.TheVariants as region
 use Rattle.track_types.specs.declared.shape.Shape.{Shape}
 use Rattle.track_types.specs.declared.shape.Shape.TheVariants.{Rect, Disc}
 
@@ -137,22 +136,21 @@ intersects_any-cell (shape ∷ shapes) area held = elim (cases_Bool (intersects_
       (found.0, found.1, rw found.2 (or-true (in_shape shape found.0)))
 ]
 
--- where a cell of the box is in the region, the test passes
-intersects_region-from_cell : (region : Region) (area : CellBox) (cell : Cell) →
-    in_box area cell ≡ true → in_region region cell ≡ true → intersects_region region area ≡ true
-intersects_region-from_cell (region.Rect x1 y1 x2 y2) area cell = intersects_shape-from_cell (Rect x1 y1 x2 y2) area cell
-intersects_region-from_cell (region.Disc x y r) area cell = intersects_shape-from_cell (Disc x y r) area cell
-intersects_region-from_cell (region.Any shapes) area cell = intersects_any-from_cell shapes area cell
+-- where a cell of the box is in the one shape or in some of the shapes, the test passes
+intersects_shapes-from_cell : (shapes : RegionShapes) (area : CellBox) (cell : Cell) →
+    in_box area cell ≡ true → in_shapes shapes cell ≡ true → intersects_shapes shapes area ≡ true
+intersects_shapes-from_cell (OneShape shape) area cell = intersects_shape-from_cell shape area cell
+intersects_shapes-from_cell (AnyShape shapes) area cell = intersects_any-from_cell shapes area cell
 
--- where the test passes, a cell of the box is in the region
-intersects_region-cell : (region : Region) (area : CellBox) → intersects_region region area ≡ true → Intersects region area
-intersects_region-cell (region.Rect x1 y1 x2 y2) area = intersects_shape-cell (Rect x1 y1 x2 y2) area
-intersects_region-cell (region.Disc x y r) area = intersects_shape-cell (Disc x y r) area
-intersects_region-cell (region.Any shapes) area = intersects_any-cell shapes area
+-- where the test passes, a cell of the box is in the one shape or in some of the shapes
+intersects_shapes-cell : (shapes : RegionShapes) (area : CellBox) → intersects_shapes shapes area ≡ true →
+    (cell : Cell) × IsTrue (in_box area cell) × IsTrue (in_shapes shapes cell)
+intersects_shapes-cell (OneShape shape) area = intersects_shape-cell shape area
+intersects_shapes-cell (AnyShape shapes) area = intersects_any-cell shapes area
 
 -- the test decides
 pub intersects_region-exact : (region : Region) (area : CellBox) → IsTrue (intersects_region region area) ↔ Intersects region area
 intersects_region-exact region area = (
-  intersects_region-cell region area,
-  λ touched. intersects_region-from_cell region area touched.0 touched.1 touched.2,
+  intersects_shapes-cell (region_shapes region) area,
+  λ touched. intersects_shapes-from_cell (region_shapes region) area touched.0 touched.1 touched.2,
 )

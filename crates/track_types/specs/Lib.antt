@@ -20,4 +20,4 @@ pub mod FlawText
 pub mod Flaws
 pub mod Frame
 pub mod Table
-pub mod Shape
+pub mod PartsForm

@@ -1,5 +1,6 @@
 -- Regions, the cells that they hold, and the boxes that they touch.
 use Rattle.std.specs.Prelude.{ℕ, ◌+◌, ◌*◌, ◌≤◌, ℤ, ◌-ℤ◌, unsigned_abs, Bool, ◌&&◌, nat_le, IsTrue, All}
+use Rattle.std.specs.Prelude.{List, [], ◌∷◌, ⊤}
 use Rattle.std.specs.List.{list_any}
 use Rattle.std.specs.Int.{int_max, int_min}
 use Rattle.std.specs.Int.Signed.{le_z}
@@ -9,30 +10,73 @@ use Rattle.track_types.specs.declared.cell_box.CellBox.{CellBox}
 use Rattle.track_types.specs.declared.limit.TheConstants.{MAX_REACH}
 use Rattle.track_types.specs.declared.region.Region.{Region}
 use Rattle.track_types.specs.declared.region.Region.TheVariants as region
+use Rattle.track_types.specs.declared.region.ShapesRef.{ShapesRef}
+use Rattle.track_types.specs.declared.region.ShapesRef.TheVariants as borrowed
 use Rattle.track_types.specs.declared.shape.Shape.{Shape}
 use Rattle.track_types.specs.declared.shape.Shape.TheVariants.{Rect, Disc}
 
+-- a number of a shape: a coordinate, or a radius
+pub data ShapeNumber : Type 0 where
+  Coordinate : ℤ → ShapeNumber
+  Radius : ℕ → ShapeNumber
+
+-- the numbers of a shape
+abbrev pub shape_numbers : Shape → List ShapeNumber
+shape_numbers (Rect x1 y1 x2 y2) = Coordinate x1 ∷ Coordinate y1 ∷ Coordinate x2 ∷ Coordinate y2 ∷ []
+shape_numbers (Disc x y r) = Coordinate x ∷ Coordinate y ∷ Radius r ∷ []
+
+-- a coordinate in that range, or a radius of at most `MAX_REACH`
+abbrev pub IsNumberIn : (ℤ → Type 0) → ShapeNumber → Type 0
+IsNumberIn IsIn (Coordinate z) = IsIn z
+IsNumberIn IsIn (Radius r) = r ≤ MAX_REACH
+
+-- coordinates in that range, and radii of at most `MAX_REACH`
+abbrev pub AreNumbersIn : (ℤ → Type 0) → List ShapeNumber → Type 0
+AreNumbersIn IsIn [] = ⊤
+AreNumbersIn IsIn (number ∷ []) = IsNumberIn IsIn number
+AreNumbersIn IsIn (number ∷ next ∷ more) = IsNumberIn IsIn number × AreNumbersIn IsIn (next ∷ more)
+
 -- a shape whose numbers are at most `MAX_REACH` away from 0
 abbrev pub IsShapeWithin : Shape → Type 0
-IsShapeWithin (Rect x1 y1 x2 y2) = IsWithin x1 × IsWithin y1 × IsWithin x2 × IsWithin y2
-IsShapeWithin (Disc x y r) = IsWithin x × IsWithin y × (r ≤ MAX_REACH)
-
--- a region whose shapes' numbers are at most `MAX_REACH` away from 0
-abbrev pub IsRegionWithin : Region → Type 0
-IsRegionWithin (region.Rect x1 y1 x2 y2) = IsShapeWithin (Rect x1 y1 x2 y2)
-IsRegionWithin (region.Disc x y r) = IsShapeWithin (Disc x y r)
-IsRegionWithin (region.Any shapes) = All IsShapeWithin shapes
+IsShapeWithin shape = AreNumbersIn IsWithin (shape_numbers shape)
 
 -- a shape that may be asked for: its coordinates may, and its radius is at most `MAX_REACH`
 abbrev pub IsShapeAsked : Shape → Type 0
-IsShapeAsked (Rect x1 y1 x2 y2) = IsAsked x1 × IsAsked y1 × IsAsked x2 × IsAsked y2
-IsShapeAsked (Disc x y r) = IsAsked x × IsAsked y × (r ≤ MAX_REACH)
+IsShapeAsked shape = AreNumbersIn IsAsked (shape_numbers shape)
+
+-- what a region is made of: one shape, or several, in any of which its cells are
+pub data RegionShapes : Type 0 where
+  OneShape : Shape → RegionShapes
+  AnyShape : List Shape → RegionShapes
+
+-- the shapes of a region
+abbrev pub region_shapes : Region → RegionShapes
+region_shapes (region.Rect x1 y1 x2 y2) = OneShape (Rect x1 y1 x2 y2)
+region_shapes (region.Disc x y r) = OneShape (Disc x y r)
+region_shapes (region.Any shapes) = AnyShape shapes
+
+-- the region of one shape
+abbrev pub region_one : Shape → Region
+region_one (Rect x1 y1 x2 y2) = region.Rect x1 y1 x2 y2
+region_one (Disc x y r) = region.Disc x y r
+
+-- the shapes that are borrowed
+abbrev pub borrowed_shapes : ShapesRef → RegionShapes
+borrowed_shapes (borrowed.One shape) = OneShape shape
+borrowed_shapes (borrowed.Any shapes) = AnyShape shapes.now
+
+-- shapes each of which is so
+abbrev pub AreAll : (Shape → Type 0) → RegionShapes → Type 0
+AreAll Is (OneShape shape) = Is shape
+AreAll Is (AnyShape shapes) = All Is shapes
+
+-- a region whose shapes' numbers are at most `MAX_REACH` away from 0
+abbrev pub IsRegionWithin : Region → Type 0
+IsRegionWithin region = AreAll IsShapeWithin (region_shapes region)
 
 -- a region whose shapes may be asked for
 abbrev pub IsRegionAsked : Region → Type 0
-IsRegionAsked (region.Rect x1 y1 x2 y2) = IsShapeAsked (Rect x1 y1 x2 y2)
-IsRegionAsked (region.Disc x y r) = IsShapeAsked (Disc x y r)
-IsRegionAsked (region.Any shapes) = All IsShapeAsked shapes
+IsRegionAsked region = AreAll IsShapeAsked (region_shapes region)
 
 -- the square of how far two numbers are apart
 abbrev pub squared_gap : ℤ → ℤ → ℕ
@@ -51,11 +95,14 @@ abbrev pub in_shape : Shape → Cell → Bool
 in_shape (Rect x1 y1 x2 y2) cell = is_between x1 x2 cell.x && is_between y1 y2 cell.y
 in_shape (Disc x y r) cell = nat_le (squared_distance (record { x = x; y = y }) cell) (r * r)
 
--- whether a cell is in a region: in its shape, or in some of its shapes
+-- whether a cell is in the one shape, or in some of the shapes
+abbrev pub in_shapes : RegionShapes → Cell → Bool
+in_shapes (OneShape shape) cell = in_shape shape cell
+in_shapes (AnyShape shapes) cell = list_any (λ shape. in_shape shape cell) shapes
+
+-- whether a cell is in a region
 abbrev pub in_region : Region → Cell → Bool
-in_region (region.Rect x1 y1 x2 y2) cell = in_shape (Rect x1 y1 x2 y2) cell
-in_region (region.Disc x y r) cell = in_shape (Disc x y r) cell
-in_region (region.Any shapes) cell = list_any (λ shape. in_shape shape cell) shapes
+in_region region cell = in_shapes (region_shapes region) cell
 
 -- a cell is in a region
 abbrev pub InRegion : Region → Cell → Type 0
@@ -85,8 +132,11 @@ intersects_shape (Rect x1 y1 x2 y2) area = overlaps x1 x2 area.x1 area.x2 && ove
 intersects_shape (Disc x y r) area =
     let centre : Cell = record { x = x; y = y } in nat_le (squared_distance centre (nearest_cell area centre)) (r * r)
 
--- the test for `Intersects`: its shape, or some of its shapes, has a cell of the box
+-- whether the one shape, or some of the shapes, has a cell of the box
+abbrev pub intersects_shapes : RegionShapes → CellBox → Bool
+intersects_shapes (OneShape shape) area = intersects_shape shape area
+intersects_shapes (AnyShape shapes) area = list_any (λ shape. intersects_shape shape area) shapes
+
+-- the test for `Intersects`
 abbrev pub intersects_region : Region → CellBox → Bool
-intersects_region (region.Rect x1 y1 x2 y2) area = intersects_shape (Rect x1 y1 x2 y2) area
-intersects_region (region.Disc x y r) area = intersects_shape (Disc x y r) area
-intersects_region (region.Any shapes) area = list_any (λ shape. intersects_shape shape area) shapes
+intersects_region region area = intersects_shapes (region_shapes region) area

@@ -1,7 +1,9 @@
 ghost use Rattle.std.specs.Prelude.{◌≡◌, ◌↔◌, All, IsTrue};
 ghost use Rattle.std.specs.List.{list_any};
 ghost use Rattle.track_types.specs.Near.{IsBoxWithin, IsCellWithin};
-ghost use Rattle.track_types.specs.Region.{IsRegionWithin, IsShapeWithin, Intersects, in_region, in_shape, intersects_region, intersects_shape};
+ghost use Rattle.track_types.specs.Region.{AreAll, IsRegionWithin, IsShapeWithin, Intersects, OneShape};
+ghost use Rattle.track_types.specs.Region.{borrowed_shapes, in_region, in_shape, intersects_region};
+ghost use Rattle.track_types.specs.Region.{intersects_shape, region_one, region_shapes};
 
 use crate::cell::Cell;
 use crate::cell_box::CellBox;
@@ -28,10 +30,9 @@ impl Region {
         requires near { IsCellWithin cell }
         ensures { result ≡ in_region self.now cell }
     {
-        match *self {
-            Region::Rect { x1, y1, x2, y2 } => Shape::Rect { x1, y1, x2, y2 }.contains(cell),
-            Region::Disc { x, y, r } => Shape::Disc { x, y, r }.contains(cell),
-            Region::Any { ref shapes } => any_contains(shapes.as_slice(), cell),
+        match self.shapes() {
+            ShapesRef::One(shape) => shape.contains(cell),
+            ShapesRef::Any(shapes) => any_contains(shapes, cell),
         }
     }
 
@@ -52,12 +53,47 @@ impl Region {
         requires near { IsBoxWithin area.now }
         ensures { result ≡ intersects_region self.now area.now }
     {
-        match *self {
-            Region::Rect { x1, y1, x2, y2 } => Shape::Rect { x1, y1, x2, y2 }.intersects(area),
-            Region::Disc { x, y, r } => Shape::Disc { x, y, r }.intersects(area),
-            Region::Any { ref shapes } => any_intersects(shapes.as_slice(), area),
+        match self.shapes() {
+            ShapesRef::One(shape) => shape.intersects(area),
+            ShapesRef::Any(shapes) => any_intersects(shapes, area),
         }
     }
+
+    // What it is made of. It is inlined, so that no shape is copied.
+    #[inline(always)]
+    fn shapes(&self) -> ShapesRef<'_>
+        requires { IsRegionWithin self.now }
+        ensures value { borrowed_shapes result ≡ region_shapes self.now }
+        ensures within { AreAll IsShapeWithin (borrowed_shapes result) }
+    {
+        match *self {
+            Region::Rect { x1, y1, x2, y2 } => ShapesRef::One(Shape::Rect { x1, y1, x2, y2 }),
+            Region::Disc { x, y, r } => ShapesRef::One(Shape::Disc { x, y, r }),
+            Region::Any { ref shapes } => ShapesRef::Any(shapes.as_slice()),
+        }
+    }
+}
+
+/// The region of one shape.
+impl From<Shape> for Region {
+    ghost from_gives = { λ shape region.
+        (region ≡ region_one shape) × (region_shapes region ≡ OneShape shape) };
+
+    fn from(shape: Shape) -> Self {
+        match shape {
+            Shape::Rect { x1, y1, x2, y2 } => Region::Rect { x1, y1, x2, y2 },
+            Shape::Disc { x, y, r } => Region::Disc { x, y, r },
+        }
+    }
+}
+
+/// What a region is made of.
+#[derive(Clone, Copy)]
+pub enum ShapesRef<'a> {
+    /// One shape.
+    One(Shape),
+    /// Shapes in any of which its cells are.
+    Any(&'a [Shape]),
 }
 
 // Whether a cell is in some of the shapes.

@@ -1,6 +1,6 @@
 ghost use Rattle.std.specs.Prelude.{◌≡◌, ◌^◌, ◌<◌, ◌≤◌};
 ghost use Rattle.rule_store.specs.Table.{symbols_of};
-ghost use Rattle.track_types.specs.Shape.{width_for};
+ghost use Rattle.track_types.specs.PartsForm.{width_for};
 ghost use Rattle.track_types.specs.declared.limit.TheConstants.{MAX_HEIGHT, MAX_PERIOD, MAX_SPAN};
 
 use crate::width::width_for;

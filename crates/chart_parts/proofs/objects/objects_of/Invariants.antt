@@ -1,7 +1,7 @@
 use Rattle.std.proofs.Common.{◌≡◌, ◌++◌, length}
 use Rattle.track_types.specs.Quantities.{objects_of}
 use Rattle.track_types.specs.Row.{IsAscending}
-use Rattle.track_types.specs.Shape.{AreShort}
+use Rattle.track_types.specs.PartsForm.{AreShort}
 use Rattle.chart_parts.proofs.objects.objects_of.Given as goal
 
 abbrev pub invariant-loop-left : goal.invariant-loop-left

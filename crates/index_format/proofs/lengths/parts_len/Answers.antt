@@ -1,6 +1,6 @@
 use Rattle.std.proofs.Common.{◌≡◌, length, take, sym, ap, arith}
 use Rattle.std.proofs.lemmas.List.{take_all}
-use Rattle.track_types.specs.Shape.{symbol_width}
+use Rattle.track_types.specs.PartsForm.{symbol_width}
 use Rattle.index_format.proofs.LengthLaws.{header_length-parts, length-bytes_of_parts, length-log_bytes}
 use Rattle.index_format.proofs.lengths.parts_len.Goals as goal
 

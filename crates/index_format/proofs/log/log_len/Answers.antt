@@ -1,7 +1,7 @@
 use Rattle.std.proofs.Common.{◌≡◌, ◌*◌, length, refl, sym, ap, ◌∙◌, arith}
 use Rattle.std.proofs.lemmas.Bool.{lt-ltb, le-ltb}
 use Rattle.std.proofs.lemmas.Grind.{common_steps}
-use Rattle.track_types.specs.Shape.{symbol_width}
+use Rattle.track_types.specs.PartsForm.{symbol_width}
 use Rattle.index_format.specs.Spelling.{bytes_for}
 use Rattle.index_format.proofs.LengthLaws.{length-log_bytes}
 use Rattle.index_format.proofs.log.log_len.Goals as goal

@@ -1,6 +1,6 @@
 use Rattle.std.proofs.Common.{◌++◌, get_or, ap, ◌∙◌}
 use Rattle.packed_bits.specs.Words.{low_bits}
-use Rattle.track_types.specs.Shape.{width_for}
+use Rattle.track_types.specs.PartsForm.{width_for}
 use Rattle.rule_store.specs.Cells.{moved}
 use Rattle.rule_store.specs.declared.entry.Entry.{Entry}
 use Rattle.index_format.proofs.BlockPuttingLemmas.{putting_log-bits, putting_log-cell, putting_log-more}

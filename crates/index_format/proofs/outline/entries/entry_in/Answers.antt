@@ -1,6 +1,6 @@
 use Rattle.std.proofs.Common.{◌≡◌, arith, sym, ap, ◌∙◌}
 use Rattle.std.proofs.lemmas.Result.{err_from_is_err_and}
-use Rattle.track_types.specs.Shape.{width_for}
+use Rattle.track_types.specs.PartsForm.{width_for}
 use Rattle.index_format.specs.OutlineBlocks.{entry_width}
 use Rattle.index_format.proofs.EntryLemmas.{entry_in-full, entry_in-untold, entry_in-told, entry_read}
 use Rattle.index_format.proofs.outline.entries.entry_in.Goals as goal
