@@ -1,6 +1,6 @@
 -- Cutting shapes off words and reading them, one after another.
 use Rattle.std.proofs.Common.{◌≡◌, ◌+◌, ◌-◌, ◌<◌, ◌≤◌, ℕ, suc, List, [], ◌∷◌, Ok, Err, Result, ◌++◌, append_assoc, append-nil, arith, refl, sym}
-use Rattle.question_shell.specs.RegionWords.{DiscTexts, RectTexts, ShapeTexts, and_then, if_last, shape_cut, shape_of, shape_size, shapes_cut, shapes_of}
+use Rattle.question_shell.specs.RegionWords.{ShapeTexts, and_then, if_last, shape_cut, shape_of, shape_size, shapes_cut, shapes_of}
 use Rattle.track_types.specs.declared.shape.Shape.{Shape}
 use Rattle.question_shell.specs.declared.bad.Bad.{Bad}
 
@@ -16,11 +16,6 @@ joined-next : {A : Type 0} (before : List A) (value : A) (rest : Result (List A)
     joined before (and_then rest (λ more. Ok (value ∷ more))) ≡ joined (before ++ value ∷ []) rest
 joined-next before value (Ok more) = rw append_assoc refl
 joined-next before value (Err fault) = refl
-
--- a shape has at most five words
-pub size-few : (words : ShapeTexts) → shape_size words ≤ 5
-size-few (RectTexts x1 y1 x2 y2) = omega arith
-size-few (DiscTexts x y r) = omega arith
 
 -- nothing before them
 pub cut-begin : (count : ℕ) (words : List (List ℕ)) → shapes_cut count words ≡ joined [] (shapes_cut (count - 0) words)

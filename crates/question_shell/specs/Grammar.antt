@@ -52,7 +52,7 @@ form_of first =
 abbrev pub plain_question : Form → (List ℤ → Question) → List (List ℕ) → Result Question Bad
 plain_question form asks words =
     if length words == length (form_words form)
-    then unless_bad (first_fault (form_words form) 2 words) (asks (numbers_of (form_words form) words))
+    then unless_bad (first_fault (form_words form) 1 words) (asks (numbers_of (form_words form) words))
     else Err bad.Count
 
 -- a question about a region, or the fault of that
@@ -73,10 +73,10 @@ form_question Position words = plain_question Position
 form_question Path words = plain_question Path
     (λ numbers. question.Path (unsigned_abs (nth_number numbers 0)) (nth_number numbers 1) (nth_number numbers 2)) words
 form_question Slice words = laid_question (layout_of 3 (drop 1 words))
-    (unless_bad (first_fault (form_words Slice) 2 words) (question.Slice (nth_number (numbers_of (form_words Slice) words) 0))) 3
+    (unless_bad (first_fault (form_words Slice) 1 words) (question.Slice (nth_number (numbers_of (form_words Slice) words) 0))) 3
 form_question Interval words =
     let numbers = numbers_of (form_words Interval) words in
-    laid_question (layout_of 4 (drop 2 words)) (unless_bad (first_fault (form_words Interval) 2 words)
+    laid_question (layout_of 4 (drop 2 words)) (unless_bad (first_fault (form_words Interval) 1 words)
     (question.Interval (nth_number numbers 0) (nth_number numbers 1))) 4
 form_question Nearest words = plain_question Nearest
     (λ numbers. question.Nearest (unsigned_abs (nth_number numbers 0)) (nth_number numbers 1)

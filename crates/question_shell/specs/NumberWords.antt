@@ -54,12 +54,16 @@ abbrev pub fault_or : Option Bad → Option Bad → Option Bad
 fault_or (Some fault) other = Some fault
 fault_or None other = other
 
--- the first fault of the words from the left; the first of them stands at that place of the line
+-- the first fault of the words from the left; the first of them stands so many words after that place of the line
+abbrev pub fault_after : List NumberWord → ℕ → ℕ → List (List ℕ) → Option Bad
+fault_after [] place after words = None
+fault_after (wanted ∷ more) place after [] = None
+fault_after (wanted ∷ more) place after (word ∷ words) =
+    fault_or (word_fault wanted (place + after) word) (fault_after more place (after + 1) words)
+
+-- the first fault of the number words after a name that stands at that place of the line
 abbrev pub first_fault : List NumberWord → ℕ → List (List ℕ) → Option Bad
-first_fault [] place words = None
-first_fault (wanted ∷ more) place [] = None
-first_fault (wanted ∷ more) place (word ∷ words) =
-    fault_or (word_fault wanted place word) (first_fault more (place + 1) words)
+first_fault wanted place words = fault_after wanted place 1 words
 
 -- the value of a numeral, 0 where it has none
 abbrev pub value_of : Numeral → ℤ

@@ -6,11 +6,11 @@ ghost use Rattle.question_shell.specs.RegionWords.{any_layout, layout_of};
 use crate::bad::Bad;
 use crate::layout::lay_shapes;
 use crate::number_word::read_shape_count;
-use crate::shape_reading::{read_shape, read_shapes};
-use crate::shape_words::cut_named;
+use crate::shape_reading::read_shapes;
+use crate::shape_words::{cut_named, read_shape};
 use crate::time::Time;
 use crate::words::{cut_word, next_word};
-use track_types::{Question, Region, Shape};
+use track_types::{Question, Region};
 
 // Reads the rest of a line, a region, whose first word stands at that place of the line, into a
 // question's place. It judges how the words are laid out before the time that was read, and the
@@ -37,11 +37,8 @@ pub(crate) fn read_region(
         return Err(Bad::Count);
     };
     let time = time?;
-    let region = match read_shape(&words, place)? {
-        Shape::Rect { x1, y1, x2, y2 } => Region::Rect { x1, y1, x2, y2 },
-        Shape::Disc { x, y, r } => Region::Disc { x, y, r },
-    };
-    time.ask(&region, question);
+    let shape = read_shape(&words, place)?;
+    time.ask(&Region::from(shape), question);
     Ok(())
 }
 

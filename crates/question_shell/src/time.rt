@@ -38,7 +38,7 @@ impl Time {
 
 // Reads the instant of a slice.
 pub(crate) fn read_instant(word: &[u8]) -> Result<Time, Bad>
-    ensures value { asks_of result ≡ unless_bad (first_fault (form_words form.Slice) 2 (word.now ∷ []))
+    ensures value { asks_of result ≡ unless_bad (first_fault (form_words form.Slice) 1 (word.now ∷ []))
         (question.Slice (word_number word.now)) }
     ensures asked { IfOk result IsTimeAsked }
 {
@@ -48,7 +48,7 @@ pub(crate) fn read_instant(word: &[u8]) -> Result<Time, Bad>
 // Reads the instants of an interval.
 pub(crate) fn read_window(from: &[u8], to: &[u8]) -> Result<Time, Bad>
     ensures value { asks_of result
-        ≡ unless_bad (first_fault (form_words form.Interval) 2 (from.now ∷ to.now ∷ []))
+        ≡ unless_bad (first_fault (form_words form.Interval) 1 (from.now ∷ to.now ∷ []))
         (question.Interval (word_number from.now) (word_number to.now)) }
     ensures asked { IfOk result IsTimeAsked }
 {

@@ -5,7 +5,7 @@ use Rattle.track_types.specs.Region.{IsShapeAsked}
 use Rattle.question_shell.specs.RegionWords.{shape_texts, shapes_of}
 use Rattle.question_shell.specs.declared.shape_words.ShapeWords.{ShapeWords}
 use Rattle.question_shell.specs.declared.shape_words.ShapeWords.TheVariants.{Rect}
-use Rattle.question_shell.proofs.LayoutLemmas.{read-all, read-bad, read-begin, read-next, size-few}
+use Rattle.question_shell.proofs.LayoutLemmas.{read-all, read-bad, read-begin, read-next}
 use Rattle.question_shell.proofs.shape_reading.read_shapes.Goals as goal
 
 pub returns-in_err-read_shape-clause-value : goal.returns-in_err-read_shape-clause-value
@@ -22,11 +22,11 @@ loop-words-init c =
     let place = c.args.place in
     let first = shape_texts c.args.first.now in
     let more = map shape_texts c.args.more.now in
-    rw (c.new-shapes.ensures, c.count.ensures) (record {
+    rw (c.new-shapes.ensures, c.count.ensures.value) (record {
       value = read-begin place (first ∷ more)
           ∙ read-next place first more [] c.in_ok-read_shape.field-0 (sym c.in_ok-read_shape.ensures.value);
       read = refl;
-      short = omega (arith, size-few first, c.requires.short);
+      short = omega (arith, c.count.ensures.few, c.requires.short);
       asked = search rules;
     })
 
@@ -60,11 +60,11 @@ loop-words-preserved c =
     let shape = c.in_ok-read_shape-2.field-0 in
     let words = shape_texts (get_or more index blank) in
     let after = map shape_texts (drop (index + 1) more) in
-    rw (c.add.ensures, c.count-in-loop-words.ensures) (record {
+    rw (c.add.ensures, c.count-in-loop-words.ensures.value) (record {
       value = (rw (left_more more index c.loop-words-test.true) at c.loop-words.invariant.value)
           ∙ read-next c.loop-words.next words after shapes shape (sym c.in_ok-read_shape-2.ensures.value);
       read = omega (arith, length-append shapes (shape ∷ []), c.loop-words.invariant.read);
-      short = omega (arith, size-few words, c.loop-words.invariant.short);
+      short = omega (arith, c.count-in-loop-words.ensures.few, c.loop-words.invariant.short);
       asked = All-append IsShapeAsked shapes (shape ∷ []) c.loop-words.invariant.asked (search rules);
     })
 
