@@ -15,6 +15,7 @@ use Rattle.track_types.specs.declared.cell_box.CellBox.{CellBox}
 use Rattle.track_types.specs.declared.frame.Frame.{Frame}
 use Rattle.track_types.specs.declared.limit.TheConstants.{MAX_HEIGHT}
 use Rattle.track_types.specs.declared.parts.Parts.{Parts}
+use Rattle.track_types.proofs.TimelineLemmas.{period-ends}
 use Rattle.k2_tree.specs.Morton.{IsInGrid}
 use Rattle.rule_store.specs.View.{RulesView}
 use Rattle.rule_store.specs.Cells.{displacement_of, moved}
@@ -30,7 +31,6 @@ use Rattle.snapshots.specs.Stores.{snapshots_in, AreOf}
 use Rattle.snapshots.specs.View.{all_blocks, block_of}
 use Rattle.snapshots.specs.declared.anchored.Anchored.{Anchored}
 use Rattle.snapshots.proofs.JoinLemmas.{start_in-within}
-use Rattle.object_track.proofs.MetLemmas.{period-ends}
 
 -- no grid is wider than the highest
 grid-width : (frame : Frame) → IsFrame frame → 2 ^ frame.height ≤ 2 ^ MAX_HEIGHT
@@ -141,7 +141,7 @@ module _ (parts : Parts) (valid : IsValid parts) where
           (start_at (anchored_at parts.frame number block) block.cell) (log_in parts block)
       IsPlaced-block =
           let header = valid.shaped.header in
-          let ends = period-ends parts.frame header number within in
+          let ends = period-ends parts.frame.span parts.frame.period header.periods.some number within in
           let behind = its.offset in
           record {
             instant = record {

@@ -24,6 +24,7 @@ use Rattle.track_types.specs.declared.parts.Parts.{Parts}
 use Rattle.track_types.specs.declared.row.Row.{Row}
 use Rattle.track_types.specs.declared.stop.Stop.{Stop}
 use Rattle.track_types.proofs.RegionLemmas.{is_between-from}
+use Rattle.track_types.proofs.TimelineLemmas.{period-apart}
 use Rattle.rule_store.specs.Log.{in_window}
 use Rattle.log_cursor.specs.Seek.{cell_among, is_stop_at}
 use Rattle.log_cursor.proofs.StopLemmas.{int_eq-apart}
@@ -31,7 +32,7 @@ use Rattle.snapshots.specs.Parts.{chart_in, end_in, first_in, index_in, last_in,
 use Rattle.snapshots.specs.SoundParts.{IsValid}
 use Rattle.list_laws.proofs.IncreasingLemmas.{increasing-below}
 use Rattle.object_track.specs.Met.{IsMissed}
-use Rattle.object_track.proofs.MetLemmas.{period-apart, period-inside, period_in-none, period_in-some}
+use Rattle.object_track.proofs.MetLemmas.{period-inside, period_in-none, period_in-some}
 use Rattle.object_track.proofs.StopsLemmas.{All-stops_in, IsStopIn}
 
 -- a test takes rows of one object alone
@@ -136,6 +137,7 @@ module _ (parts : Parts) (valid : IsValid parts) where
   stops_at-one index instant number when =
       let header = valid.shaped.header in
       let found = period_in-some parts.frame header instant number when in
+      let apart = period-apart parts.frame.span parts.frame.period header.periods.some parts.frame.first in
       flat_map-range_one (λ j. filter (is_stop_at instant) (stops_in parts index j)) number
       (periods_of parts.frame) found.0
       (λ j within other. stops-missed index j (is_stop_at instant) within
@@ -145,8 +147,8 @@ module _ (parts : Parts) (valid : IsValid parts) where
       elim (cases_order j number) [
         | inl equal ↦ other equal
         | inr differ ↦ elim differ [
-          | inl less ↦ period-apart parts.frame header j number instant less found.0 below found.1
-          | inr more ↦ period-apart parts.frame header number j instant more within found.2 above
+          | inl less ↦ apart j number instant less below found.1
+          | inr more ↦ apart number j instant more found.2 above
         ]
       ])))
 

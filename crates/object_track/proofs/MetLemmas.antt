@@ -1,15 +1,15 @@
--- The instants of periods, and the periods that a window meets.
-use Rattle.std.proofs.Common.{◌≡◌, ℕ, suc, ◌+◌, ◌-◌, ◌*◌, ◌/◌, ◌%◌, ◌<◌, ◌≤◌, ℤ}
+-- The periods that a window meets.
+use Rattle.std.proofs.Common.{◌≡◌, ℕ, suc, ◌+◌, ◌-◌, ◌*◌, ◌/◌, ◌<◌, ◌≤◌, ℤ}
 use Rattle.std.proofs.Common.{pos, ◌+ℤ◌, ◌-ℤ◌, ◌≤ℤ◌, ◌<ℤ◌, true, false, inl, inr, subst, arith}
 use Rattle.std.specs.Prelude.{unsigned_abs, None, Some}
-use Rattle.std.proofs.Math.Nat.{div-add-mod, lt_of_mul-lt-mul_right, mul-le-mul_right}
+use Rattle.std.proofs.Math.Nat.{lt_of_mul-lt-mul_right, mul-le-mul_right}
 use Rattle.std.proofs.lemmas.Bool.{cases_Bool}
-use Rattle.std.proofs.lemmas.Grind.{div_ceil_times}
 use Rattle.std.proofs.lemmas.Int.{ints}
 use Rattle.track_types.specs.Frame.{instants_in, periods_of, IsFrame}
 use Rattle.track_types.specs.Region.{is_between}
 use Rattle.track_types.specs.declared.frame.Frame.{Frame}
 use Rattle.track_types.proofs.RegionLemmas.{is_between-bounds}
+use Rattle.track_types.proofs.TimelineLemmas as timeline
 use Rattle.snapshots.specs.IndexCost.{is_met}
 use Rattle.snapshots.specs.Parts.{end_in, first_in, is_covered, last_in, period_in}
 use Rattle.object_track.specs.Met.{AreMet}
@@ -25,71 +25,15 @@ module _ (frame : Frame) (header : IsFrame frame) where
   some : 0 < frame.period
   some = header.periods.some
 
-  -- all periods together have as many instants as the header says, or more
-  enough : frame.span ≤ periods_of frame * frame.period
-  enough = (div_ceil_times frame.span frame.period some).0
-
-  -- a period begins before the span ends
-  pub period-begins : (number : ℕ) → number < periods_of frame → number * frame.period < frame.span
-  period-begins number within =
-      let all = (div_ceil_times frame.span frame.period some).1 in
-      let next : suc number * frame.period ≤ periods_of frame * frame.period = mul-le-mul_right frame.period within in
-      let one : suc number * frame.period ≡ number * frame.period + frame.period = grind arith in
-      omega (arith, all, next, one)
-
-  -- and ends with it or before
-  pub period-ends : (number : ℕ) → number < periods_of frame
-      → number * frame.period + (instants_in frame number - 1) < frame.span
-  period-ends number within = let begins = period-begins number within in omega (arith, begins)
-
   -- a period ends before a later one begins
   pub period-before : (i j : ℕ) → i < j → j < periods_of frame
       → i * frame.period + (instants_in frame i - 1) < j * frame.period
-  period-before i j less within =
-      let next : suc i * frame.period ≤ j * frame.period = mul-le-mul_right frame.period less in
-      let one : suc i * frame.period ≡ i * frame.period + frame.period = grind arith in
-      omega (arith, next, one, some)
-
-  module _ (elapsed : ℕ) (inside : elapsed < frame.span) where
-    -- the period of an instant of the span begins at it or before
-    pub quotient-low : elapsed / frame.period * frame.period ≤ elapsed
-    quotient-low =
-        let parted = div-add-mod elapsed frame.period in
-        let turned : frame.period * (elapsed / frame.period) ≡ elapsed / frame.period * frame.period = grind arith in
-        omega (arith, parted, turned)
-
-    -- ends behind it, were it whole
-    pub quotient-high : elapsed < elapsed / frame.period * frame.period + frame.period
-    quotient-high =
-        let parted = div-add-mod elapsed frame.period in
-        let turned : frame.period * (elapsed / frame.period) ≡ elapsed / frame.period * frame.period = grind arith in
-        let rest : elapsed % frame.period < frame.period = omega (arith, some) in
-        omega (arith, parted, turned, rest)
-
-    -- is one of the index's
-    pub quotient-within : elapsed / frame.period < periods_of frame
-    quotient-within =
-        let all = enough in
-        let low = quotient-low in
-        lt_of_mul-lt-mul_right frame.period {m = elapsed / frame.period} {n = periods_of frame}
-        (omega (arith, all, low, inside))
-
-    -- and ends at it or behind
-    pub quotient-end : elapsed
-        ≤ elapsed / frame.period * frame.period + (instants_in frame (elapsed / frame.period) - 1)
-    quotient-end = let low = quotient-low in let high = quotient-high in omega (arith, low, high, inside)
+  period-before i j less within = timeline.period-before frame.span frame.period some i j less
 
   -- instants of a period are those of the index
   pub period-inside : (number : ℕ) (instant : ℤ) → number < periods_of frame → first_in frame number ≤ℤ instant
       → instant ≤ℤ end_in frame number → (frame.first ≤ℤ instant) × (instant ≤ℤ last_in frame)
-  period-inside number instant within low high =
-      let ends = period-ends number within in (omega (arith, ints, low), omega (arith, ints, high, ends))
-
-  -- and those of no later period
-  pub period-apart : (i j : ℕ) (instant : ℤ) → i < j → j < periods_of frame → instant ≤ℤ end_in frame i
-      → first_in frame j ≤ℤ instant → ⊥
-  period-apart i j instant less within high low =
-      let before = period-before i j less within in omega (arith, ints, high, low, before)
+  period-inside = timeline.period-inside frame.span frame.period some frame.first
 
   -- a window that ends before it begins, or misses the span, meets no period
   pub AreMet-none : (from to : ℤ) → ((z : ℤ) → from ≤ℤ z → z ≤ℤ to → frame.first ≤ℤ z → z ≤ℤ last_in frame → ⊥)
@@ -113,8 +57,8 @@ module _ (frame : Frame) (header : IsFrame frame) where
         → is_met frame from to number ≡ true
     is_met-here number low high =
         let start : early < early / frame.period * frame.period + frame.period =
-        quotient-high early (omega (arith, ordered, inside)) in
-        let stop = quotient-low late inside in
+        timeline.quotient-high frame.span frame.period some early (omega (arith, ordered, inside)) in
+        let stop = timeline.quotient-low frame.span frame.period some late inside in
         let above : early / frame.period * frame.period ≤ number * frame.period = mul-le-mul_right frame.period low in
         let most : number ≤ late / frame.period = omega (arith, high) in
         let below : number * frame.period ≤ late / frame.period * frame.period = mul-le-mul_right frame.period most in
@@ -127,8 +71,9 @@ module _ (frame : Frame) (header : IsFrame frame) where
     -- then the periods of these two instants, and those between them, are met
     pub AreMet-some : AreMet frame from to (early / frame.period) (late / frame.period + 1)
     AreMet-some =
-        let start = quotient-low early (omega (arith, ordered, inside)) in
-        let stop : late < late / frame.period * frame.period + frame.period = quotient-high late inside in
+        let start = timeline.quotient-low frame.span frame.period some early (omega (arith, ordered, inside)) in
+        let stop : late < late / frame.period * frame.period + frame.period =
+        timeline.quotient-high frame.span frame.period some late inside in
         record {
           ordered =
               let less : early / frame.period * frame.period < suc (late / frame.period) * frame.period =
@@ -137,7 +82,7 @@ module _ (frame : Frame) (header : IsFrame frame) where
               let below =
               lt_of_mul-lt-mul_right frame.period {m = early / frame.period} {n = suc (late / frame.period)} less in
               omega (arith, below);
-          within = let less = quotient-within late inside in omega (arith, less);
+          within = let less = timeline.quotient-within frame.span frame.period some late inside in omega (arith, less);
           met = is_met-here;
           early = λ number less instant low high.
               let next : suc number * frame.period ≤ early / frame.period * frame.period =
@@ -173,9 +118,9 @@ module _ (frame : Frame) (header : IsFrame frame) where
         let found : Some (elapsed / frame.period) ≡ Some number = rw covered at is in
         let same : elapsed / frame.period ≡ number = cc in
         subst (λ n. (n < periods_of frame) × (first_in frame n ≤ℤ instant) × (instant ≤ℤ end_in frame n)) same (
-          quotient-within elapsed inside,
-          (let low = quotient-low elapsed inside in omega (arith, ints, low, back)),
-          (let high = quotient-end elapsed inside in omega (arith, ints, high, back)),
+          timeline.quotient-within frame.span frame.period some elapsed inside,
+          omega (arith, ints, timeline.quotient-low frame.span frame.period some elapsed inside, back),
+          omega (arith, ints, timeline.quotient-end frame.span frame.period some elapsed inside, back),
         )
     | inr outside ↦ let none : None ≡ Some number = rw outside at is in absurd (cc)
   ]

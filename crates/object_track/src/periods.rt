@@ -1,4 +1,4 @@
-ghost use Rattle.std.specs.Prelude.{◌≡◌, ◌<◌, ◌≤ℤ◌, ◌+ℤ◌, pos};
+ghost use Rattle.std.specs.Prelude.{◌≡◌};
 ghost use Rattle.track_types.specs.Frame.{IsFrame};
 ghost use Rattle.snapshots.specs.Parts.{last_in};
 ghost use Rattle.object_track.specs.Met.{AreMet};
@@ -26,16 +26,15 @@ impl Periods {
     pub fn met(stores: &Stores, from: i64, to: i64) -> Periods
         ensures { AreMet stores.now.frame from to result.next result.end }
     {
-        let frame = stores.frame();
-        let low = from.max(frame.first);
-        let high = to.min(last_of(frame));
+        let timeline = stores.frame().timeline();
+        let low = from.max(timeline.first);
+        let high = to.min(timeline.last());
         if low > high {
             return Periods::none();
         }
-        let period = u64::from(frame.period);
         Periods {
-            next: (elapsed(frame, low) / period) as u32,
-            end: (elapsed(frame, high) / period) as u32 + 1,
+            next: timeline.period_at(low),
+            end: timeline.period_at(high) + 1,
         }
     }
 }
@@ -45,16 +44,5 @@ pub fn last_of(frame: &Frame) -> i64
     requires { IsFrame frame.now }
     ensures { result ≡ last_in frame.now }
 {
-    frame.first + i64::from(frame.span - 1)
-}
-
-// How many instants of the index come before one of them.
-fn elapsed(frame: &Frame, instant: i64) -> u64
-    requires header { IsFrame frame.now }
-    requires low { frame.now.first ≤ℤ instant }
-    requires high { instant ≤ℤ last_in frame.now }
-    ensures value { instant ≡ (frame.now.first +ℤ pos result) }
-    ensures within { result < frame.now.span }
-{
-    (instant - frame.first).unsigned_abs()
+    frame.timeline().last()
 }

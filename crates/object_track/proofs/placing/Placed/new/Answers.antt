@@ -3,6 +3,7 @@ use Rattle.std.proofs.lemmas.Int.{ints}
 use Rattle.track_types.specs.declared.cell.Cell.{Cell}
 use Rattle.track_types.specs.declared.frame.Frame.{Frame}
 use Rattle.track_types.specs.declared.parts.Parts.{Parts}
+use Rattle.track_types.proofs.TimelineLemmas.{period-ends}
 use Rattle.rule_store.specs.Log.{log_of}
 use Rattle.rule_store.specs.View.{RulesView}
 use Rattle.log_cursor.specs.Start.{start_at, IsPlaced}
@@ -10,7 +11,6 @@ use Rattle.snapshots.specs.Parts.{anchored_at, log_in, rules_in}
 use Rattle.snapshots.specs.SoundParts.{IsValid}
 use Rattle.snapshots.proofs.LogsLemmas.{log_of-is}
 use Rattle.object_track.proofs.BlockLemmas.{log-within, IsPlaced-block}
-use Rattle.object_track.proofs.MetLemmas.{period-ends}
 use Rattle.object_track.proofs.placing.Placed.new.Goals as goal
 
 pub block-log-requires : goal.block-log-requires
@@ -35,7 +35,7 @@ instant-is c =
     let first = ap (λ (f : Frame). f.first) c.frame-frame.ensures.value in
     let product : c.from.result * c.from-2.result ≡ c.args.period * frame.period =
     rw (c.from.ensures, c.from-2.ensures) (ap (λ (f : Frame). c.args.period * f.period) c.frame-frame.ensures.value) in
-    let ends = period-ends frame header c.args.period c.requires.period in
+    let ends = period-ends frame.span frame.period header.periods.some c.args.period c.requires.period in
     let offset = c.requires.block.offset in
     omega (
       arith,
