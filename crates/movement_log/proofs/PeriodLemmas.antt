@@ -1,27 +1,19 @@
 -- Blocks by period: all anchors, each once, and no more terminals than a chart may have.
-use Rattle.std.proofs.Common.{◌≡◌, ℕ, ◌/◌, ◌<◌, List, get_or, map, refl, sym, ◌∙◌, ap, arith}
+use Rattle.std.proofs.Common.{◌≡◌, ℕ, ◌<◌, List, get_or, map, refl, sym, ◌∙◌, ap}
 use Rattle.std.specs.Prelude.{All, sum_by}
-use Rattle.std.specs.Int.{div_ceil}
 use Rattle.std.specs.List.Sorted.{IsNonDecreasingBy, IsPermutation, IsStableByKey}
 use Rattle.std.specs.Ordering.{nat_cmp}
-use Rattle.std.proofs.Math.Nat.{div-lt_iff_lt-mul}
-use Rattle.std.proofs.lemmas.Grind.{div_ceil_times}
 use Rattle.std.proofs.lemmas.List.Elements.{All-filter}
 use Rattle.std.proofs.lemmas.List.Sorted.{All-permutation}
 use Rattle.list_laws.proofs.KeyRangeLemmas.{by_key, by_key-sorted, by_key-stable, map-by_key, sum_by-by_key}
 use Rattle.track_types.proofs.QuantityLemmas.{elapsed-span}
+use Rattle.track_types.proofs.TimelineLemmas.{quotient-within}
 use Rattle.track_types.specs.Chart.{ChartView}
 use Rattle.track_types.specs.Quantities.{anchors_of, elapsed, first_of, is_anchor, period_count, period_of, span_of}
 use Rattle.track_types.specs.declared.row.Row.{Row}
 use Rattle.movement_log.specs.Blocks.{AreBlocks, IsBlockIn, anchor_in, anchors_by_object, no_row}
 use Rattle.movement_log.specs.Logs.{block_anchors}
 use Rattle.movement_log.specs.declared.blocks.Block.{Block}
-
--- a number below another is in a period of those that this takes
-period_below : (before span period : ℕ) → 0 < period → before < span → before / period < div_ceil span period
-period_below before span period some below =
-    let enough = (div_ceil_times span period some).0 in
-    (div-lt_iff_lt-mul {k = period} {x = before} {y = div_ceil span period} some).1 (omega arith)
 
 module _ (chart : ChartView) (some : 0 < chart.period) where
   abbrev pub row_period : Row → ℕ
@@ -32,7 +24,7 @@ module _ (chart : ChartView) (some : 0 < chart.period) where
 
   pub rows_below : All (λ row. row_period row < period_count chart.rows chart.period) chart.rows
   rows_below k d within =
-      period_below (elapsed (first_of chart.rows) (get_or chart.rows k d)) (span_of chart.rows) chart.period some
+      quotient-within (span_of chart.rows) chart.period some (elapsed (first_of chart.rows) (get_or chart.rows k d))
       (elapsed-span chart.rows k d within)
 
   -- there are as many terminals by period as by object

@@ -1,4 +1,5 @@
 ghost use Rattle.std.specs.Prelude.{◌≡◌, ◌+◌, ◌-◌, ◌*◌, ◌<◌, ◌≤◌, IfOk, OnOk, length, sum_by};
+ghost use Rattle.gridding.specs.Block.{IsInSpan};
 ghost use Rattle.movement_log.specs.Blocks.{AreBlocks, anchors_by_object, log_length_of, object_place, period_end_of, place_of_object, row_at};
 ghost use Rattle.movement_log.specs.Logs.{block_anchors, head_of};
 ghost use Rattle.track_types.specs.Chart.{IsChart};
@@ -77,15 +78,15 @@ fn is_anchor(chart: &Chart, at: usize, period_end: u64) -> bool
 
 // The header of an anchor's block.
 fn head_of(chart: &Chart, anchor: &Row, index: u32) -> Head
-    requires inside { elapsed (first_of chart.now.rows) anchor.now < span_of chart.now.rows }
+    requires inside { IsInSpan (first_of chart.now.rows) (span_of chart.now.rows) anchor.now }
     requires index { index ≡ place_of_object chart.now.rows anchor.now.object }
     ensures { result ≡ head_of chart.now anchor.now }
 {
-    let elapsed = anchor.instant.abs_diff(chart.first()) as u32;
+    let timeline = chart.timeline();
     Head {
-        period: elapsed / chart.period(),
+        period: timeline.period_at(anchor.instant),
         index,
-        offset: elapsed % chart.period(),
+        offset: timeline.elapsed(anchor.instant) % timeline.period,
         cell: anchor.cell,
     }
 }
@@ -115,15 +116,10 @@ fn end_of_period(chart: &Chart, period: u32) -> u64
     (u64::from(period) + 1) * u64::from(chart.period())
 }
 
-/// How many terminals a block's log has: one for each later instant of its period. The last period
-/// ends where the chart does.
+/// How many terminals a block's log has: one for each later instant of its period.
 pub(crate) fn log_length(chart: &Chart, anchor: &Row) -> usize
-    requires inside { elapsed (first_of chart.now.rows) anchor.now < span_of chart.now.rows }
+    requires inside { IsInSpan (first_of chart.now.rows) (span_of chart.now.rows) anchor.now }
     ensures { result ≡ log_length_of chart.now anchor.now }
 {
-    let elapsed = anchor.instant.abs_diff(chart.first());
-    let span = chart.last().abs_diff(chart.first()) + 1;
-    let period = u64::from(chart.period());
-    let period_end = (elapsed / period + 1) * period;
-    (period_end.min(span) - (elapsed + 1)) as usize
+    chart.timeline().log_length(anchor.instant) as usize
 }

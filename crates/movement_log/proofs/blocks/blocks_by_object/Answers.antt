@@ -2,11 +2,11 @@ use Rattle.std.proofs.Common.{◌≡◌, ℕ, ◌+◌, ◌-◌, ◌*◌, ◌<◌
 use Rattle.std.proofs.lemmas.Bool.{cases_lt}
 use Rattle.track_types.specs.Chart.{ChartView, IsChart}
 use Rattle.track_types.specs.Quantities.{first_of, is_anchor}
-use Rattle.track_types.proofs.QuantityLemmas.{elapsed-span, first_of-below}
+use Rattle.track_types.proofs.QuantityLemmas.{first_of-below}
 use Rattle.movement_log.specs.Blocks.{no_row, object_place, period_end_of, place_of_object, row_at}
 use Rattle.movement_log.specs.Logs.{head_of}
 use Rattle.movement_log.proofs.AnchorLemmas.{is_anchor-first, period_kept}
-use Rattle.movement_log.proofs.BlockLemmas.{AreFirst, first_all, first_kept, first_more, first_none}
+use Rattle.movement_log.proofs.BlockLemmas.{AreFirst, first_all, first_kept, first_more, first_none, rows-in_span}
 use Rattle.movement_log.proofs.ObjectLemmas.{object_place-first}
 use Rattle.movement_log.proofs.blocks.blocks_by_object.Goals as goal
 use Rattle.movement_log.proofs.blocks.blocks_by_object.Goals.{then-is_anchor+in_ok-push, else-is_anchor}
@@ -42,7 +42,7 @@ head_of-head-requires c =
     let within = rw c.rows-rows.ensures.value at c.loop-at-test.true in
     record {
       index = c.object_index-index.ensures ∙ ap (λ all. place_of_object all (row_at c.rows-rows.result.now c.loop-at.at).object) c.rows-rows.ensures.value;
-      inside = rw c.rows-rows.ensures.value (elapsed-span rows c.loop-at.at no_row within);
+      inside = rw c.rows-rows.ensures.value (rows-in_span rows c.loop-at.at no_row within);
     }
 
 pub loop-at-preserved : goal.loop-at-preserved

@@ -2,7 +2,7 @@ use Rattle.std.proofs.Common.{◌≡◌, ◌+◌, ◌-◌, ◌<◌, ◌++◌, []
 use Rattle.std.specs.List.{range_with_len}
 use Rattle.std.proofs.lemmas.Int.{ints}
 use Rattle.std.proofs.lemmas.List.{append-nil}
-use Rattle.track_types.proofs.QuantityLemmas.{elapsed-span}
+use Rattle.movement_log.proofs.BlockLemmas.{rows-in_span}
 use Rattle.track_types.specs.Row.{IsAscending}
 use Rattle.movement_log.specs.Blocks.{is_in_log, log_length_of, no_row, row_at}
 use Rattle.movement_log.specs.Values.{move_value}
@@ -12,7 +12,7 @@ use Rattle.movement_log.proofs.logs.append_log.Goals.{then-loop-last-test+else-i
 
 pub log_length-len-requires : goal.log_length-len-requires
 log_length-len-requires c =
-    record { inside = rw c.rows-rows.ensures.value (elapsed-span c.args.chart.now.rows c.args.at no_row c.requires) }
+    record { inside = rw c.rows-rows.ensures.value (rows-in_span c.args.chart.now.rows c.args.at no_row c.requires) }
 
 pub loop-last-init : goal.loop-last-init
 loop-last-init c = record {
