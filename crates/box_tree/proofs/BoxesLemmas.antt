@@ -10,7 +10,8 @@ use Rattle.std.specs.Prelude.{slice_get}
 use Rattle.std.proofs.lemmas.Option.{same_Some}
 use Rattle.track_types.specs.declared.cell.Cell.{Cell}
 use Rattle.track_types.specs.declared.cell_box.CellBox.{CellBox}
-use Rattle.box_tree.specs.Boxes.{IsBase, IsFrom, box_with, boxes_of}
+use Rattle.k2_tree.specs.Morton.{IsBase}
+use Rattle.box_tree.specs.Boxes.{IsFrom, box_with, boxes_of}
 
 -- there are as many boxes as corners
 pub boxes_of-length : (base : Cell) (corners reaches : List (ℕ × ℕ)) → length reaches ≡ length corners

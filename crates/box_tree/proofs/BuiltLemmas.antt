@@ -8,7 +8,7 @@ use Rattle.box_tree.specs.Held.{Nodes}
 use Rattle.box_tree.specs.Levels.{digits, square_start}
 use Rattle.box_tree.specs.Places.{ArePlaces}
 use Rattle.box_tree.specs.Tree.{AreLevels, IsBoxTree, code_at, levels_below, places_with, box_tree_of}
-use Rattle.box_tree.specs.Boxes.{IsBase}
+use Rattle.k2_tree.specs.Morton.{IsBase}
 use Rattle.track_types.specs.declared.cell.Cell.{Cell}
 use Rattle.box_tree.specs.Building.{BeginsWith, IsMade, IsTask, IsTaskAt}
 use Rattle.box_tree.specs.declared.task.Task.{Task}

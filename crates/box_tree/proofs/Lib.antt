@@ -8,11 +8,9 @@ pub mod NearerLemmas
 pub mod NodeLemmas
 pub mod WalkLemmas
 -- Squares, their children, and the places in them.
-pub mod SquareLemmas
 pub mod PlacesLemmas
 mod RunLemmas
 mod DigitsLemmas
-mod ColumnLemmas
 mod BoxesLemmas
 -- Walks.
 mod BeginLemmas

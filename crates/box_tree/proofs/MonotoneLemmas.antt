@@ -11,13 +11,12 @@ use Rattle.track_types.specs.declared.limit.TheConstants.{MAX_HEIGHT}
 use Rattle.track_types.specs.declared.region.Region.{Region}
 use Rattle.track_types.proofs.RegionLemmas.{in_box-bounds, in_box-from, intersects_region-exact}
 use Rattle.k2_tree.specs.Areas.{area_at, IsBoxInside}
-use Rattle.k2_tree.specs.Morton.{cell_of, morton_of, IsGrid, IsInGrid}
+use Rattle.k2_tree.specs.Morton.{cell_of, morton_of, IsBase, IsGrid, IsInGrid}
 use Rattle.k2_tree.specs.Squares.{node}
 use Rattle.k2_tree.specs.TreeBits.{code_limit}
 use Rattle.k2_tree.proofs.AreaLemmas.{in_area}
 use Rattle.k2_tree.proofs.MortonLemmas.{cell_of-inside, morton_of-cell_of}
 use Rattle.box_tree.specs.Tests.{AreMonotone, IsWider, tests_at}
-use Rattle.box_tree.specs.Boxes.{IsBase}
 use Rattle.box_tree.specs.Places.{ArePassed}
 
 -- a cell lies in each square with a prefix of its number

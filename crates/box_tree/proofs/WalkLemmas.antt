@@ -27,7 +27,7 @@ use Rattle.box_tree.proofs.DigitsLemmas.{mask_digits-small}
 use Rattle.box_tree.proofs.NodeLemmas.{length-kept, square_worth-branch, square_worth-bucket}
 use Rattle.box_tree.proofs.NodeLemmas.{square_worth-cell, squares_in-own}
 use Rattle.box_tree.proofs.RunLemmas.{run-children}
-use Rattle.box_tree.proofs.SquareLemmas.{child-ends, child-fits, child-prefix}
+use Rattle.k2_tree.proofs.PlaceLemmas.{child-ends, child-fits, child-prefix}
 use Rattle.box_tree.proofs.TreeLemmas.{slots-parts}
 
 -- what a bucket has

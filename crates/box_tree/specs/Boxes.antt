@@ -1,9 +1,9 @@
 -- How boxes are kept.
-use Rattle.std.specs.Prelude.{◌≡◌, ℕ, ◌-◌, ◌^◌, pos, neg_ℤ, ◌+ℤ◌, ◌≤ℤ◌, List, [], ◌∷◌, length}
+use Rattle.std.specs.Prelude.{◌≡◌, ℕ, ◌-◌, ◌^◌, pos, ◌+ℤ◌, ◌≤ℤ◌, List, [], ◌∷◌, length}
 use Rattle.track_types.specs.declared.cell.Cell.{Cell}
 use Rattle.track_types.specs.declared.cell_box.CellBox.{CellBox}
-use Rattle.track_types.specs.declared.limit.TheConstants.{MAX_ASKED}
 use Rattle.track_types.specs.Boxes.{le-more}
+pub use Rattle.k2_tree.specs.Morton.{IsBase}
 
 -- the box that begins so far from a base and reaches so far
 abbrev pub box_with : Cell → ℕ × ℕ → ℕ × ℕ → CellBox
@@ -21,13 +21,6 @@ unfoldable pub boxes_of : Cell → List (ℕ × ℕ) → List (ℕ × ℕ) → L
 boxes_of base [] reaches = []
 boxes_of base (corner ∷ corners) [] = []
 boxes_of base (corner ∷ corners) (reach ∷ reaches) = box_with base corner reach ∷ boxes_of base corners reaches
-
--- a base near 0
-pub record IsBase (base : Cell) : Type 0 where
-  pub left : neg_ℤ (pos MAX_ASKED) ≤ℤ base.x
-  pub right : base.x ≤ℤ pos MAX_ASKED
-  pub below : neg_ℤ (pos MAX_ASKED) ≤ℤ base.y
-  pub above : base.y ≤ℤ pos MAX_ASKED
 
 -- a box lies to the right of a base and above it, and less than 2^32 away
 pub record IsFrom (base : Cell) (area : CellBox) : Type 0 where

@@ -4,9 +4,8 @@ use Rattle.std.specs.Prelude.{length, map, All}
 use Rattle.track_types.specs.declared.cell_box.CellBox.{CellBox}
 use Rattle.track_types.specs.declared.limit.TheConstants.{MAX_HEIGHT}
 use Rattle.track_types.specs.declared.cell.Cell.{Cell}
-use Rattle.k2_tree.specs.Morton.{interleaved}
+use Rattle.k2_tree.specs.Morton.{IsBase, interleaved}
 use Rattle.k2_tree.specs.Squares.{Node, node}
-use Rattle.box_tree.specs.Boxes.{IsBase}
 use Rattle.box_tree.specs.Levels.{digits}
 use Rattle.box_tree.specs.Places.{Places, Square, square_with, ArePlaces}
 use Rattle.box_tree.specs.Held.{Nodes, Held}

@@ -6,12 +6,11 @@ use Rattle.k2_tree.specs.Squares.{Node, node}
 use Rattle.box_tree.specs.Levels.{digits, squares_in}
 use Rattle.box_tree.specs.Places.{Places, Square, ArePlaces, square_worth, place_passes, square_places, square_with}
 use Rattle.box_tree.specs.Tests.{Tests}
-use Rattle.box_tree.specs.Boxes.{IsBase}
 use Rattle.box_tree.specs.Cost.{node_reads, place_reads}
 use Rattle.box_tree.specs.Tree.{TreeView, IsNodeOf, child_limit, levels_of, node_at, node_square, slots}
 use Rattle.box_tree.specs.declared.node_ref.NodeRef.{NodeRef}
 use Rattle.box_tree.specs.declared.node_ref.TheConstants.{SLOTS}
-use Rattle.k2_tree.specs.Morton.{morton_column, morton_row}
+use Rattle.k2_tree.specs.Morton.{IsBase, morton_column, morton_row}
 
 -- a tree, the squares that are still to be visited, the next one first, the places that are left of an open bucket, and
 -- how many nodes wait

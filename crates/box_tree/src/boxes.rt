@@ -1,6 +1,7 @@
 ghost use Rattle.std.specs.Prelude.{◌≡◌, ◌+◌, ◌≤◌, ◌<◌, length, ◌-◌, ◌^◌, slice_get, Some, IfOk};
 ghost use Rattle.std.specs.Prelude.{All, pos, ◌+ℤ◌, ◌≤ℤ◌};
-ghost use Rattle.box_tree.specs.Boxes.{IsBase, IsFrom};
+ghost use Rattle.k2_tree.specs.Morton.{IsBase};
+ghost use Rattle.box_tree.specs.Boxes.{IsFrom};
 ghost use Rattle.track_types.specs.Near.{IsBoxWithin, IsWithin};
 
 use std::alloc::Global;

@@ -7,7 +7,7 @@ ghost use Rattle.track_types.specs.declared.cell.Cell.{Cell};
 ghost use Rattle.box_tree.specs.Kinds.{link_kind};
 ghost use Rattle.box_tree.specs.Levels.{children, digits, square_start};
 ghost use Rattle.box_tree.specs.Places.{Ascends, box_at};
-ghost use Rattle.box_tree.specs.Tree.{levels_below};
+ghost use Rattle.box_tree.specs.Tree.{code_at, levels_below, AreCells};
 ghost use Rattle.track_types.specs.declared.limit.TheConstants.{MAX_HEIGHT};
 ghost use Rattle.track_types.specs.Near.{IsBoxWithin, IsWithin};
 ghost use Rattle.k2_tree.specs.Areas.{IsBoxInside};
@@ -16,8 +16,8 @@ ghost use Rattle.k2_tree.specs.Pruning.{place_among};
 ghost use Rattle.k2_tree.specs.TreeBits.{code_limit};
 
 use crate::kind::{BUCKET, BUCKET_LIMIT};
-use crate::node_walk::fan_of;
 use crate::task::Task;
+use k2_tree::{column_of, fan_of, row_of};
 use std::alloc::Global;
 use track_types::{CellBox, Memory};
 
@@ -126,7 +126,7 @@ fn link_of(
 }
 
 // How many digits the level below a square takes.
-fn width_of(narrow: u32, below: u32) -> u32
+pub fn width_of(narrow: u32, below: u32) -> u32
     requires { 1 ≤ below }
     ensures value { levels_below narrow below ≡ result ∷ levels_below narrow (below - 1) }
     ensures some { 1 ≤ result }
@@ -215,4 +215,17 @@ fn end_of(codes: &[u64], low: u32, high: u32, bound: u64) -> u32
         }
     }
     low
+}
+
+// The column and the row of each of the Morton numbers.
+pub fn cells_of(alloc: Global, codes: &[u64]) -> Result<Vec<(u32, u32)>, Memory>
+    requires { All (λ code. code < code_limit) codes.now }
+    ensures codes { IfOk result (λ cells. map code_at cells.items ≡ codes.now) }
+    ensures small { IfOk result (λ cells. AreCells cells.items) }
+{
+    let mut cells = Vec::with_capacity(alloc, codes.len())?;
+    for code in codes {
+        cells.push((column_of(*code), row_of(*code)))?;
+    }
+    Ok(cells)
 }

@@ -8,7 +8,6 @@
 
 mod boxes;
 mod building;
-mod grid_square;
 mod kind;
 mod node_ref;
 mod node_walk;

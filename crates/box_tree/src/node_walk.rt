@@ -1,18 +1,18 @@
 ghost use Rattle.std.specs.Prelude.{◌≡◌, ℕ, ◌+◌, ◌-◌, ◌*◌, ◌^◌, ◌<◌, ◌≤◌, ◌++◌, ◌∷◌, [], length};
 ghost use Rattle.std.specs.Prelude.{reverse, IfNone, IfSome};
 ghost use Rattle.track_types.specs.declared.limit.TheConstants.{MAX_HEIGHT};
-ghost use Rattle.box_tree.specs.Boxes.{IsBase};
+ghost use Rattle.k2_tree.specs.Morton.{IsBase};
 ghost use Rattle.box_tree.specs.Cost.{link_reads};
 ghost use Rattle.box_tree.specs.Held.{mask_digits};
 ghost use Rattle.box_tree.specs.Tree.{IsNodeOf, levels_of, node_square, slots, whole};
 ghost use Rattle.box_tree.specs.Places.{ArePlaces};
 ghost use Rattle.box_tree.specs.Walk.{child_refs, OpensSquare};
 
-use crate::grid_square::{digit_column, digit_row};
 use crate::kind::Kind;
 use crate::node_ref::{NodeRef, SLOTS};
 use crate::tree::BoxTree;
 use arrayvec::ArrayVec;
+use k2_tree::{child_column, child_row, fan_of};
 use std::marker::Model;
 use std::sync::ledger::Ledger;
 use step_count::Steps;
@@ -158,19 +158,9 @@ pub(crate) fn push_children(
                 node: number,
                 below: parent.below - 1,
                 level: parent.level - width,
-                column: (parent.column << width) + digit_column(digit, width),
-                row: (parent.row << width) + digit_row(digit, width),
+                column: child_column(parent.column, width, digit),
+                row: child_row(parent.row, width, digit),
             });
         }
     }
-}
-
-// How many children a square has at most, where it is split by so many digits.
-pub(crate) fn fan_of(width: u32) -> u32
-    requires some { 1 ≤ width }
-    requires few { width ≤ 2 }
-    ensures value { result ≡ 4 ^ width }
-    ensures few { result ≤ 16 }
-{
-    if width == 1 { 4 } else { 16 }
 }

@@ -3,7 +3,8 @@ ghost use Rattle.std.specs.Prelude.{slice_index, All, IfNone, IfOk, IfSome};
 ghost use Rattle.track_types.specs.Near.{IsBoxWithin};
 ghost use Rattle.k2_tree.specs.Areas.{area_at, IsBoxInside};
 ghost use Rattle.k2_tree.specs.Squares.{node};
-ghost use Rattle.box_tree.specs.Boxes.{IsBase, IsFrom};
+ghost use Rattle.k2_tree.specs.Morton.{IsBase};
+ghost use Rattle.box_tree.specs.Boxes.{IsFrom};
 ghost use Rattle.box_tree.specs.Cost.{box_reads, cell_reads, link_reads};
 ghost use Rattle.box_tree.specs.Held.{IsKindFor};
 ghost use Rattle.box_tree.specs.Walk.{IsGivenWay};
@@ -16,12 +17,12 @@ ghost use Rattle.box_tree.specs.Places.{box_at, square_places, ArePlaces};
 ghost use Rattle.track_types.specs.declared.limit.TheConstants.{MAX_HEIGHT};
 
 use crate::boxes::Boxes;
-use crate::building::{begin, make};
-use crate::grid_square::{cells_of, square_area};
+use crate::building::{begin, cells_of, make, width_of};
 use crate::kind::{Kind, kind_of};
 use crate::node_ref::{NodeRef, SLOTS};
 use crate::node_walk::push_children;
 use arrayvec::ArrayVec;
+use k2_tree::square_area;
 use std::alloc::Global;
 use std::marker::Model;
 use std::sync::ledger::Ledger;
@@ -201,6 +202,6 @@ impl BoxTree {
         ensures some { 1 ≤ result }
         ensures few { result ≤ 2 }
     {
-        if below <= self.narrow { 1 } else { 2 }
+        width_of(self.narrow, below)
     }
 }

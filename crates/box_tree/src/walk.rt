@@ -3,7 +3,7 @@ ghost use Rattle.std.specs.Prelude.{true, false, IfNone, IfSome};
 ghost use Rattle.box_tree.specs.BoxWalk.{walk_tests, box_budget, box_left, found_places, search_reads};
 ghost use Rattle.box_tree.specs.BoxWalk.{walked_tree};
 ghost use Rattle.box_tree.specs.Cost.{place_reads};
-ghost use Rattle.box_tree.specs.Boxes.{IsBase};
+ghost use Rattle.k2_tree.specs.Morton.{IsBase};
 ghost use Rattle.box_tree.specs.Levels.{digits};
 ghost use Rattle.box_tree.specs.Places.{place_passes, ArePlaces};
 ghost use Rattle.track_types.specs.declared.limit.TheConstants.{MAX_HEIGHT};

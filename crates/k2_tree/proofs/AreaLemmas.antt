@@ -2,7 +2,7 @@
 use Rattle.std.proofs.Common.{◌≡◌, ℕ, zero, suc, ◌+◌, ◌-◌, ◌*◌, ◌/◌, ◌%◌, ◌^◌, ◌<◌, ◌≤◌, ℤ, pos, neg_ℤ, ◌+ℤ◌, ◌-ℤ◌}
 use Rattle.std.proofs.Common.{◌≤ℤ◌, true, sym, ap, ◌∙◌, arith, lit<, w64, to_z, of_z}
 use Rattle.std.proofs.Math.Nat.{div-lt_iff_lt-mul, div-mul-le_self, lt-div-mul-add}
-use Rattle.std.proofs.Math.Nat.{mul-le-mul_left, mul-le-mul_right, pow-le-pow_right, pow-suc}
+use Rattle.std.proofs.Math.Nat.{mul-le-mul_left, pow-le-pow_right, pow-suc}
 use Rattle.std.proofs.lemmas.Nat.{pow-add, pow_pos}
 use Rattle.std.proofs.lemmas.Bool.{and_from}
 use Rattle.std.proofs.lemmas.Int.{ints, to_z-of_z}
@@ -14,7 +14,7 @@ use Rattle.track_types.specs.declared.limit.TheConstants.{MAX_ASKED, MAX_HEIGHT}
 use Rattle.track_types.proofs.RegionLemmas.{is_between-from}
 use Rattle.k2_tree.specs.Morton.{interleaved, morton_of, morton_row, morton_column, IsGrid, IsInGrid}
 use Rattle.k2_tree.specs.Squares.{node}
-use Rattle.k2_tree.specs.Areas.{area_at, IsBoxInside}
+use Rattle.k2_tree.specs.Areas.{area_at}
 use Rattle.k2_tree.proofs.MortonLemmas.{ends_back, interleaved-more, interleaved-prefix}
 
 -- numbers near 0 fit a word
@@ -64,54 +64,6 @@ interleaved-child n row column digit level small some right upper =
         let c : (2 * row + digit / 2) % 2 ≡ digit / 2 = omega arith in
         let d : (2 * column + digit % 2) % 2 ≡ digit % 2 = omega arith in
         rw (a, b, c, d) (omega arith)
-
--- half of a stretch lies in it
-half_inside : (base : ℤ) (count half level : ℕ) → 1 ≤ level → half < 2
-    → ((base +ℤ pos (count * 2 ^ level)) ≤ℤ (base +ℤ pos ((2 * count + half) * 2 ^ (level - 1))))
-    × ((base +ℤ pos ((2 * count + half) * 2 ^ (level - 1)) +ℤ pos (2 ^ (level - 1) - 1))
-    ≤ℤ (base +ℤ pos (count * 2 ^ level) +ℤ pos (2 ^ level - 1)))
-half_inside base count half zero some small = absurd (omega arith)
-half_inside base count half (suc n) some small =
-    let i : suc n - 1 ≡ n = omega arith in
-    let power : 2 ^ suc n ≡ 2 * 2 ^ n = omega (arith, pow-suc 2 n) in
-    let whole : count * (2 * 2 ^ n) ≡ 2 * (count * 2 ^ n) = grind arith in
-    let parts : (2 * count + half) * 2 ^ n ≡ 2 * (count * 2 ^ n) + half * 2 ^ n = grind arith in
-    let most : half * 2 ^ n ≤ 1 * 2 ^ n = mul-le-mul_right (2 ^ n) (omega arith) in
-    rw (i, power, whole, parts) (omega (arith, ints), omega (arith, ints, pow_pos n))
-
--- and ends no later
-half_end : (count half level limit : ℕ) → 1 ≤ level → half < 2 → (count + 1) * 2 ^ level ≤ limit
-    → (2 * count + half + 1) * 2 ^ (level - 1) ≤ limit
-half_end count half zero limit some small most = absurd (omega arith)
-half_end count half (suc n) limit some small most =
-    let i : suc n - 1 ≡ n = omega arith in
-    let power : 2 ^ suc n ≡ 2 * 2 ^ n = omega (arith, pow-suc 2 n) in
-    let whole : (count + 1) * (2 * 2 ^ n) ≡ (2 * count + 2) * 2 ^ n = grind arith in
-    let less : (2 * count + half + 1) * 2 ^ n ≤ (2 * count + 2) * 2 ^ n = mul-le-mul_right (2 ^ n) (omega arith) in
-    rw i (omega (arith, ap (λ p. (count + 1) * p) power))
-
--- so does a quarter of a square
-pub child_inside_square : (base : Cell) (row column digit level : ℕ) → 1 ≤ level → digit < 4
-    → (column + 1) * 2 ^ level ≤ 2 ^ MAX_HEIGHT → (row + 1) * 2 ^ level ≤ 2 ^ MAX_HEIGHT
-    → IsBoxInside
-    (area_at base (node (level - 1) (interleaved MAX_HEIGHT (2 * row + digit / 2) (2 * column + digit % 2))))
-    (area_at base (node level (interleaved MAX_HEIGHT row column)))
-child_inside_square base row column digit level some small right upper =
-    let m : ℕ = MAX_HEIGHT in
-    let x : ℕ = 2 * column + digit % 2 in
-    let y : ℕ = 2 * row + digit / 2 in
-    let right' = half_end column (digit % 2) level (2 ^ m) some (omega arith) right in
-    let upper' = half_end row (digit / 2) level (2 ^ m) some (omega arith) upper in
-    let old = ends_back m m row column (omega arith) (before-lt row level m upper) (before-lt column level m right) in
-    let new = ends_back m m y x (omega arith) (before-lt y (level - 1) m upper') (before-lt x (level - 1) m right') in
-    let across = half_inside base.x column (digit % 2) level some (omega arith) in
-    let along = half_inside base.y row (digit / 2) level some (omega arith) in
-    record {
-      left = (rw (old.1, new.1) across.0);
-      right = (rw (old.1, new.1) across.1);
-      below = (rw (old.0, new.0) along.0);
-      above = (rw (old.0, new.0) along.1);
-    }
 
 -- a stretch of numbers, one of those as long that are laid from a base on: it holds a number, and its ends are near 0
 record IsStretch (base : ℤ) (count far : ℕ) (z : ℤ) : Type 0 where

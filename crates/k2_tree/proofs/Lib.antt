@@ -2,6 +2,7 @@
 -- squares, areas, walks, flaws, and how many bits.
 pub mod MortonLemmas
 pub mod SpreadLemmas
+mod ColumnLemmas
 pub mod CellLemmas
 pub mod RisingLemmas
 pub mod PrefixLemmas
@@ -11,6 +12,7 @@ pub mod WidthLemmas
 pub mod GroupLemmas
 pub mod SquareLemmas
 pub mod AreaLemmas
+pub mod PlaceLemmas
 pub mod InsideLemmas
 pub mod PruningLemmas
 pub mod KeptLemmas

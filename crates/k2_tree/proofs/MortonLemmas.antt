@@ -1,4 +1,4 @@
--- Digits of Morton numbers: how large they are, what prefixes and last digits tell, and digits one by one.
+-- Digits of Morton numbers: how large they are, and what prefixes and last digits tell.
 use Rattle.std.proofs.Common.{◌≡◌, ℕ, zero, suc, ◌+◌, ◌-◌, ◌*◌, ◌/◌, ◌%◌, ◌^◌, ◌<◌, ◌≤◌, ℤ, pos, ◌+ℤ◌, ◌-ℤ◌}
 use Rattle.std.proofs.Common.{refl, sym, ap, ◌∙◌, arith, lit<}
 use Rattle.std.proofs.Math.Nat.{div-div-eq-div-mul, div-one, pow-suc, pow-le-pow_right}
@@ -41,30 +41,6 @@ morton_row-half (suc n) code =
 
 pub morton_row-lt : (n code : ℕ) → morton_row n code < 2 ^ n
 morton_row-lt n code = omega (arith, morton_row-half n code, morton_column-lt n (code / 2))
-
--- a column of no more digits than the greatest grid has is small
-pub morton_column-small : (height level code column : ℕ) → height ≤ MAX_HEIGHT
-    → column ≡ morton_column (height - level) (code / 4 ^ level) → column < 2 ^ MAX_HEIGHT
-morton_column-small height level code column few is =
-    let fewer : height - level ≤ MAX_HEIGHT = omega arith in
-    let most : 2 ^ (height - level) ≤ 2 ^ MAX_HEIGHT = pow-le-pow_right {n = 2} (lit< tt) fewer in
-    omega (arith, is, morton_column-lt (height - level) (code / 4 ^ level))
-
--- a digit of a column more, as a loop that goes down to level 0 meets it
-pub morton_column-down : (height level code column : ℕ) → 0 < level → level ≤ height
-    → column ≡ morton_column (height - level) (code / 4 ^ level)
-    → 2 * column + code / 2 ^ (2 * (level - 1)) % 4 % 2 ≡ morton_column (height - (level - 1)) (code / 4 ^ (level - 1))
-unfolding morton_column
-morton_column-down height zero code column some within is = absurd (omega arith)
-morton_column-down height (suc n) code column some within is =
-    let i : suc n - 1 ≡ n = omega arith in
-    let e : height - n ≡ suc (height - suc n) = omega arith in
-    let digit : code / 2 ^ (2 * n) % 4 ≡ code / 4 ^ n % 4 = ap (λ p. code / p % 4) (two_bits n) in
-    rw (i, e, div-pow_suc 4 code n) (omega (arith, is, digit))
-
--- at level 0 nothing was left away
-pub morton_column-whole : (height code : ℕ) → morton_column (height - 0) (code / 4 ^ 0) ≡ morton_column height code
-morton_column-whole height code = let e : height - 0 ≡ height = omega arith in rw (e, div-one code) refl
 
 -- 0 has column 0
 morton_column-zero : (m : ℕ) → morton_column m 0 ≡ 0

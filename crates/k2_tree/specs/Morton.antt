@@ -13,6 +13,13 @@ pub record IsGrid (height : ℕ) (base : Cell) : Type 0 where
   pub below : neg_ℤ (pos MAX_ASKED) ≤ℤ base.y
   pub above : base.y ≤ℤ pos MAX_ASKED
 
+-- a base near 0
+pub record IsBase (base : Cell) : Type 0 where
+  pub left : neg_ℤ (pos MAX_ASKED) ≤ℤ base.x
+  pub right : base.x ≤ℤ pos MAX_ASKED
+  pub below : neg_ℤ (pos MAX_ASKED) ≤ℤ base.y
+  pub above : base.y ≤ℤ pos MAX_ASKED
+
 -- the cell is in the grid
 pub record IsInGrid (height : ℕ) (base cell : Cell) : Type 0 where
   pub left : base.x ≤ℤ cell.x

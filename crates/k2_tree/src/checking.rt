@@ -4,12 +4,12 @@ ghost use Rattle.k2_tree.specs.Flaws.{group_flaw, tree_flaw};
 ghost use Rattle.k2_tree.specs.Checking.{flaw_from, group_ones, IsLevel};
 ghost use Rattle.track_types.specs.declared.limit.TheConstants.{MAX_HEIGHT, MAX_TREE};
 
+use crate::counting::ones_within;
 use crate::groups::{fan_of, width_below};
-use crate::upper::ones_within;
 use track_types::BitList;
 
-/// The place of the first flaw of bits that are no tree's of this height, in one pass over them, and
-/// `None` if and only if they are a tree's.
+/// The place of the first flaw of bits that are no tree's of this height, and `None` if and only if
+/// they are a tree's. It goes over each bit up to the flaw once.
 ///
 /// Each level has as many groups as the level above it has ones, and the first has one. A group of
 /// the `wide` upper levels has sixteen bits, and one of the others four. No memory is taken.

@@ -9,6 +9,7 @@
 mod building;
 mod checking;
 mod climb;
+mod counting;
 mod descent;
 mod fault;
 mod group_bits;
@@ -21,13 +22,13 @@ mod pruned;
 mod square;
 mod square_walk;
 mod tree;
-mod upper;
 
 pub use building::bits_of_codes;
 pub use fault::TreeFault;
+pub use groups::fan_of;
 pub use keep::Keep;
 pub use listing::Listing;
-pub use morton_code::{cell_at, codes_of_cells, morton};
+pub use morton_code::{cell_at, codes_of_cells, column_of, morton, row_of};
 pub use pruned::Pruned;
-pub use square::Square;
+pub use square::{Square, child_column, child_row, square_area};
 pub use tree::K2Tree;

@@ -97,40 +97,50 @@ pub fn cell_at(code: u64, height: u32, base: Cell) -> Cell
     requires grid { IsGrid height base }
     ensures { result ≡ cell_of height base code }
 {
+    let digits = code % (1 << (2 * height));
     Cell {
-        x: moved(base.x, column_at(code, height)),
-        y: moved(base.y, row_at(code, height)),
+        x: moved(base.x, column_of(digits)),
+        y: moved(base.y, row_of(digits)),
     }
 }
 
 // The coordinate so far from the base's.
-fn moved(base: i64, by: u64) -> i64
+fn moved(base: i64, by: u32) -> i64
     requires low { neg_ℤ (pos MAX_ASKED) ≤ℤ base }
     requires high { base ≤ℤ pos MAX_ASKED }
-    requires small { by < 2 ^ MAX_HEIGHT }
     ensures { result ≡ base +ℤ pos by }
 {
-    base + by as i64
+    base + i64::from(by)
 }
 
-// The column of a Morton number, by its digits.
-fn column_at(code: u64, height: u32) -> u64
-    requires { height ≤ MAX_HEIGHT }
-    ensures value { result ≡ morton_column height code }
+/// The column of a Morton number in the greatest grid: the lower bit of each digit, taken eight digits at a time.
+pub fn column_of(code: u64) -> u32
+    ensures value { result ≡ morton_column MAX_HEIGHT code }
     ensures small { result < 2 ^ MAX_HEIGHT }
 {
     let mut column = 0;
-    for level in (0..height).rev() {
-        column = 2 * column + (code >> (2 * level)) % 4 % 2;
+    for part in (0..MAX_HEIGHT / 8).rev() {
+        column = 256 * column + part_column((code >> (16 * part)) % 65536);
     }
     column
 }
 
-// The row of a Morton number, by its digits: its bits stand above those of the column.
-fn row_at(code: u64, height: u32) -> u64
-    requires { height ≤ MAX_HEIGHT }
-    ensures value { result ≡ morton_row height code }
+// The same of a number of eight digits: its bits close up by one, by two and by four (H. S. Warren, "Hacker's Delight").
+fn part_column(part: u64) -> u32
+    requires { part < 65536 }
+    ensures value { result ≡ morton_column 8 part }
+    ensures small { result < 256 }
+{
+    let bits = part & 0x5555;
+    let pairs = (bits | bits >> 1) & 0x3333;
+    let nibbles = (pairs | pairs >> 2) & 0x0f0f;
+    ((nibbles | nibbles >> 4) & 0x00ff) as u32
+}
+
+/// The row of a Morton number in the greatest grid: its bits stand above those of the column.
+pub fn row_of(code: u64) -> u32
+    ensures value { result ≡ morton_row MAX_HEIGHT code }
     ensures small { result < 2 ^ MAX_HEIGHT }
 {
-    column_at(code / 2, height)
+    column_of(code / 2)
 }

@@ -1,5 +1,7 @@
 ghost use Rattle.std.specs.Prelude.{◌≡◌, ◌+◌, ◌-◌, ◌*◌, ◌/◌, ◌%◌, ◌^◌, ◌<◌, ◌≤◌, ◌↔◌, pos, neg_ℤ, ◌+ℤ◌, ◌≤ℤ◌, IsTrue};
-ghost use Rattle.k2_tree.specs.Morton.{IsGrid};
+ghost use Rattle.k2_tree.specs.Areas.{area_at};
+ghost use Rattle.k2_tree.specs.Morton.{interleaved, morton_column, morton_row, IsBase, IsGrid};
+ghost use Rattle.k2_tree.specs.Squares.{node};
 ghost use Rattle.track_types.specs.Near.{IsBoxWithin, IsWithin};
 ghost use Rattle.track_types.specs.declared.limit.TheConstants.{MAX_ASKED, MAX_HEIGHT};
 
@@ -22,10 +24,7 @@ pub struct Square {
     ghost low: { level ≤ MAX_HEIGHT },
     ghost right: { (column + 1) * 2 ^ level ≤ 2 ^ MAX_HEIGHT },
     ghost upper: { (row + 1) * 2 ^ level ≤ 2 ^ MAX_HEIGHT },
-    ghost west: { neg_ℤ (pos MAX_ASKED) ≤ℤ base.x },
-    ghost east: { base.x ≤ℤ pos MAX_ASKED },
-    ghost south: { neg_ℤ (pos MAX_ASKED) ≤ℤ base.y },
-    ghost north: { base.y ≤ℤ pos MAX_ASKED },
+    ghost near: { IsBase base },
 }
 
 impl Default for Square {
@@ -40,8 +39,7 @@ impl Default for Square {
 }
 
 impl Square {
-    ghost use Rattle.k2_tree.specs.Widths.{fan, fan_of};
-    ghost use Rattle.k2_tree.specs.Squares.{node};
+    ghost use Rattle.k2_tree.specs.Widths.{fan_of};
     ghost use Rattle.k2_tree.specs.Areas.{IsBoxInside};
     ghost use Rattle.k2_tree.specs.TreeSquares.{area_of, child_at, least_cell_of, level_of, node_of, square_number};
 
@@ -51,12 +49,7 @@ impl Square {
         ensures value { result ≡ area_of self.now }
         ensures within { IsBoxWithin result }
     {
-        CellBox {
-            x1: first(self.base.x, self.column, self.level),
-            y1: first(self.base.y, self.row, self.level),
-            x2: last(self.base.x, self.column, self.level),
-            y2: last(self.base.y, self.row, self.level),
-        }
+        square_area(self.base, self.level, self.column, self.row)
     }
 
     /// Whether the square is a cell.
@@ -94,26 +87,11 @@ impl Square {
         ensures number { square_number result ≡ number }
         ensures inside { IsBoxInside (area_of result) (area_of self.now) }
     {
-        if width == 1 {
-            return self.quarter(digit, number);
-        }
-        self.quarter(digit / 4, 0).quarter(digit % 4, number)
-    }
-
-    // The quarter of the square with a digit to base 4, which has this number.
-    fn quarter(&self, digit: u32, number: u32) -> Square
-        requires inner { 1 ≤ level_of self.now }
-        requires small { digit < fan }
-        ensures base { result.base ≡ self.now.base }
-        ensures node { node_of result ≡ child_at 1 (node_of self.now) digit }
-        ensures number { square_number result ≡ number }
-        ensures inside { IsBoxInside (area_of result) (area_of self.now) }
-    {
         Square {
             base: self.base,
-            level: self.level - 1,
-            column: 2 * self.column + digit % 2,
-            row: 2 * self.row + digit / 2,
+            level: self.level - width,
+            column: child_column(self.column, width, digit),
+            row: child_row(self.row, width, digit),
             number,
         }
     }
@@ -145,7 +123,25 @@ impl Square {
     }
 }
 
-// The first coordinate of a square, where so many squares of its level stand before it.
+/// The cells of a square of the grid from a base: its side is `2^level`, and so many squares of its
+/// size stand to the left of it and below it. It lies in the greatest grid.
+pub fn square_area(base: Cell, level: u32, column: u32, row: u32) -> CellBox
+    requires base { IsBase base }
+    requires low { level ≤ MAX_HEIGHT }
+    requires right { (column + 1) * 2 ^ level ≤ 2 ^ MAX_HEIGHT }
+    requires upper { (row + 1) * 2 ^ level ≤ 2 ^ MAX_HEIGHT }
+    ensures value { result ≡ area_at base (node level (interleaved MAX_HEIGHT row column)) }
+    ensures within { IsBoxWithin result }
+{
+    CellBox {
+        x1: first(base.x, column, level),
+        y1: first(base.y, row, level),
+        x2: last(base.x, column, level),
+        y2: last(base.y, row, level),
+    }
+}
+
+// The first coordinate of a square, where so many squares of its size stand before it.
 fn first(base: i64, before: u32, level: u32) -> i64
     requires west { neg_ℤ (pos MAX_ASKED) ≤ℤ base }
     requires east { base ≤ℤ pos MAX_ASKED }
@@ -167,4 +163,50 @@ fn last(base: i64, before: u32, level: u32) -> i64
     ensures within { IsWithin result }
 {
     first(base, before, level) + (1 << level) - 1
+}
+
+/// The column of a child of a square among the squares of its size. The square has so many squares of its
+/// own size to the left of it, and a level of this width splits it.
+pub fn child_column(column: u32, width: u32, digit: u32) -> u32
+    requires some { 1 ≤ width }
+    requires narrow { width ≤ 2 }
+    requires small { digit < 4 ^ width }
+    requires right { (column + 1) * 2 ^ width ≤ 2 ^ MAX_HEIGHT }
+    ensures { result ≡ 2 ^ width * column + morton_column width digit }
+{
+    (column << width) + digit_column(digit, width)
+}
+
+/// Its row, of a square with so many squares of its own size below it.
+pub fn child_row(row: u32, width: u32, digit: u32) -> u32
+    requires some { 1 ≤ width }
+    requires narrow { width ≤ 2 }
+    requires small { digit < 4 ^ width }
+    requires upper { (row + 1) * 2 ^ width ≤ 2 ^ MAX_HEIGHT }
+    ensures { result ≡ 2 ^ width * row + morton_row width digit }
+{
+    (row << width) + digit_row(digit, width)
+}
+
+// The column of the child with a digit among those of its square, where the level takes so many
+// digits.
+fn digit_column(digit: u32, width: u32) -> u32
+    requires some { 1 ≤ width }
+    requires few { width ≤ 2 }
+    requires small { digit < 4 ^ width }
+    ensures value { result ≡ morton_column width digit }
+    ensures small { result < 2 ^ width }
+{
+    digit % 2 + digit / 4 % 2 * 2
+}
+
+// Its row.
+fn digit_row(digit: u32, width: u32) -> u32
+    requires some { 1 ≤ width }
+    requires few { width ≤ 2 }
+    requires small { digit < 4 ^ width }
+    ensures value { result ≡ morton_row width digit }
+    ensures small { result < 2 ^ width }
+{
+    digit / 2 % 2 + digit / 8 * 2
 }

@@ -19,6 +19,7 @@ ghost use Rattle.k2_tree.specs.Cost.{child_reads, climb_reads, descent_reads};
 use crate::building::split_by_codes;
 use crate::checking::find_flaw;
 use crate::climb::code_of_leaf;
+use crate::counting::upper_of;
 use crate::descent::{child_at, find_leaf};
 use crate::fault::TreeFault;
 use crate::groups::{fan_of, group_start, square_at, width_below};
@@ -29,7 +30,6 @@ use crate::pending::Pending;
 use crate::pruned::Pruned;
 use crate::square::Square;
 use crate::square_walk::SquareWalk;
-use crate::upper::upper_of;
 use arrayvec::ArrayVec;
 use bit_rank::{Bits, NoRoom};
 use std::alloc::Global;
@@ -104,7 +104,8 @@ impl K2Tree {
         }
     }
 
-    /// Takes bits as a tree with `wide` wide levels, in two passes over them.
+    /// Takes bits as a tree with `wide` wide levels, in two passes over them and a third over those of
+    /// the wide levels.
     ///
     /// There are at most `MAX_TREE` bits. The height is from 1 to `MAX_HEIGHT`, each wide level takes
     /// two of it, and the base's coordinates are within `MAX_ASKED` of 0. `Flaw` says at which place

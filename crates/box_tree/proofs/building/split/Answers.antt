@@ -127,7 +127,7 @@ unfolding mask_digits children
 returns c =
     let is = c.loop-digit.invariant in
     let all : c.loop-digit.digit ≡ 4 ^ c.args.width = omega (arith, c.fan_of-fan.ensures.value) in
-    let low : c.loop-digit.digit ≤ 16 = omega (arith, c.fan_of-fan.ensures.few) in
+    let low : c.loop-digit.digit ≤ 16 = omega (arith, c.fan_of-fan.ensures.within) in
     let most : 2 ^ c.loop-digit.digit ≤ 2 ^ 16 = pow-le-pow_right (lit< tt) low in
     record {
       ok = record {

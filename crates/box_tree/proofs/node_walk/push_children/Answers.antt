@@ -1,8 +1,6 @@
 use Rattle.std.proofs.Common.{◌≡◌, ℕ, ◌+◌, ◌-◌, ◌*◌, ◌/◌, ◌%◌, ◌^◌, ◌<◌, ◌≤◌, List, [], ◌∷◌, ◌++◌, length, reverse}
 use Rattle.std.proofs.Common.{refl, sym, ap, ◌∙◌, arith, lit<, length-append}
-use Rattle.std.proofs.Math.Nat.{mul_comm}
 use Rattle.std.proofs.lemmas.List.{reverse-append}
-use Rattle.track_types.specs.declared.limit.TheConstants.{MAX_HEIGHT}
 use Rattle.k2_tree.specs.Morton.{morton_column, morton_row}
 use Rattle.box_tree.specs.Held.{mask_digits}
 use Rattle.box_tree.specs.Walk.{child_refs}
@@ -44,12 +42,6 @@ push-requires c =
     let most = few c.args.width c.args.mask c.loop-digit.digit (omega arith) (omega arith) c.if-mask-digit-eq1.true in
     (lit< tt, omega (arith, c.loop-digit.invariant.long, c.requires.room, most))
 
--- what stands before a square fits a word
-kept : (count width : ℕ) → (count + 1) * 2 ^ width ≤ 2 ^ MAX_HEIGHT → count * 2 ^ width % 2 ^ 32 ≡ 2 ^ width * count
-kept count width all =
-    let parts : (count + 1) * 2 ^ width ≡ 2 ^ width * count + 2 ^ width = grind arith in
-    omega (arith, all, parts, mul_comm count (2 ^ width))
-
 pub loop-digit-preserved-then-mask-digit-eq1 : goal.loop-digit-preserved-then-mask-digit-eq1
 loop-digit-preserved-then-mask-digit-eq1 c =
     let l = c.loop-digit in
@@ -66,20 +58,16 @@ loop-digit-preserved-then-mask-digit-eq1 c =
       row =
           y;
     } in
-    let x : ℕ = parent.column * 2 ^ c.args.width % 2 ^ 32 + c.digit_column.result in
-    let y : ℕ = parent.row * 2 ^ c.args.width % 2 ^ 32 + c.digit_row.result in
-    let column : x ≡ 2 ^ c.args.width * parent.column + morton_column c.args.width (l.digit - 1) =
-    omega (arith, c.digit_column.ensures.value, kept parent.column c.args.width c.requires.right) in
-    let row : y ≡ 2 ^ c.args.width * parent.row + morton_row c.args.width (l.digit - 1) =
-    omega (arith, c.digit_row.ensures.value, kept parent.row c.args.width c.requires.upper) in
+    let x : ℕ = c.child_column.result in
+    let y : ℕ = c.child_row.result in
     let some : 1 ≤ l.number = omega (arith, l.invariant.left, c.requires.stand, most) in
     let back : l.number ≡ l.number - 1 + 1 = omega arith in
     record {
       here = ap reverse c.push.ensures.items ∙ reverse-append l.stack.items (made x y ∷ [])
           ∙ ap (λ rest. made x y ∷ rest) l.invariant.here
-          ∙ ap (λ k. made k y ∷ child_refs parent c.args.width l.number ds ++ reverse c.args.stack.now.items) column
+          ∙ ap (λ k. made k y ∷ child_refs parent c.args.width l.number ds ++ reverse c.args.stack.now.items) c.child_column.ensures
           ∙ ap (λ k. made (2 ^ c.args.width * parent.column + morton_column c.args.width
-          (l.digit - 1)) k ∷ child_refs parent c.args.width l.number ds ++ reverse c.args.stack.now.items) row
+          (l.digit - 1)) k ∷ child_refs parent c.args.width l.number ds ++ reverse c.args.stack.now.items) c.child_row.ensures
           ∙ ap (λ n. made (2 ^ c.args.width * parent.column + morton_column c.args.width (l.digit - 1))
           (2 ^ c.args.width * parent.row + morton_row c.args.width (l.digit - 1)) ∷ child_refs parent c.args.width n ds
           ++ reverse c.args.stack.now.items) back

@@ -3,7 +3,7 @@ use Rattle.box_tree.specs.Held.{Held, IsBranch, IsKindFor}
 use Rattle.box_tree.specs.Levels.{digits}
 use Rattle.box_tree.specs.Tree.{TreeView, child_limit, levels_below, node_prefix}
 use Rattle.box_tree.specs.declared.kind.Kind.TheVariants.{Branch}
-use Rattle.box_tree.proofs.SquareLemmas.{child-fits}
+use Rattle.k2_tree.proofs.PlaceLemmas.{child-fits}
 use Rattle.box_tree.proofs.WalkLemmas.{branch-parts, branch-some, given-way, length-mask_digits}
 use Rattle.box_tree.proofs.tree.BoxTree.push_children.Goals as goal
 use Rattle.box_tree.proofs.tree.BoxTree.push_children.Goals.{After-width-width}

@@ -11,10 +11,12 @@ invariant_of-result c =
       low = c.requires.limit;
       right = omega (arith, most);
       upper = omega (arith, most);
-      west = c.requires.left;
-      east = c.requires.right;
-      south = c.requires.below;
-      north = c.requires.above;
+      near = record {
+        left = c.requires.left;
+        right = c.requires.right;
+        below = c.requires.below;
+        above = c.requires.above;
+      };
     }
 
 pub returns-clause-node : goal.returns-clause-node

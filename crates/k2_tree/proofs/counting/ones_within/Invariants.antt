@@ -1,6 +1,6 @@
 use Rattle.std.proofs.Common.{◌≡◌, ◌-◌, ◌≤◌, take, drop}
 use Rattle.packed_bits.specs.Bits.{ones_of}
-use Rattle.k2_tree.proofs.upper.ones_within.Given as goal
+use Rattle.k2_tree.proofs.counting.ones_within.Given as goal
 
 abbrev pub invariant-loop-place : goal.invariant-loop-place
 invariant-loop-place l = record {

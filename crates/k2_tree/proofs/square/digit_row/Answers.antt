@@ -1,7 +1,7 @@
 use Rattle.std.proofs.Common.{◌≡◌, ℕ, ◌+◌, ◌*◌, ◌/◌, ◌%◌, ◌^◌, ◌<◌, arith}
 use Rattle.k2_tree.specs.Morton.{morton_row}
-use Rattle.box_tree.proofs.SquareLemmas.{by_width, row-one, row-two}
-use Rattle.box_tree.proofs.grid_square.digit_row.Goals as goal
+use Rattle.k2_tree.proofs.PlaceLemmas.{by_width, row-one, row-two}
+use Rattle.k2_tree.proofs.square.digit_row.Goals as goal
 
 pub returns-clause-value : goal.returns-clause-value
 returns-clause-value c =

@@ -2,7 +2,7 @@ use Rattle.std.proofs.Common.{ℕ, ◌/◌, ◌^◌, refl}
 use Rattle.std.specs.Int.Bits.{bit_and, bit_or}
 use Rattle.k2_tree.specs.Morton.{morton_column}
 use Rattle.k2_tree.proofs.SpreadLemmas.{agree_below, all_below}
-use Rattle.box_tree.proofs.grid_square.part_column.Goals as goal
+use Rattle.k2_tree.proofs.morton_code.part_column.Goals as goal
 
 -- the bits close up by so much, as the code does it
 abbrev closed : ℕ → ℕ → ℕ → ℕ

@@ -1,7 +1,7 @@
 use Rattle.std.proofs.Common.{◌≡◌, ◌+◌, ◌-◌, take, drop, ap, ◌∙◌, arith}
 use Rattle.packed_bits.specs.Bits.{ones_of}
 use Rattle.k2_tree.proofs.CountingLemmas.{counted_ends, counted_goes_on, counted_starts}
-use Rattle.k2_tree.proofs.upper.upper_of.Goals as goal
+use Rattle.k2_tree.proofs.counting.upper_of.Goals as goal
 
 pub loop-init : goal.loop-init
 loop-init c = counted_starts c.args.wide c.args.bits.now

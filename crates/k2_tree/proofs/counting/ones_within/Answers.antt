@@ -6,8 +6,8 @@ use Rattle.packed_bits.proofs.NumberLemmas.{count_ones-number_of, window_of-insi
 use Rattle.packed_bits.proofs.OnesLemmas.{ones_of-nil, ones_of-le-length}
 use Rattle.packed_bits.proofs.WordLemmas.{place_in_word}
 use Rattle.k2_tree.proofs.CountingLemmas.{ones_of-part}
-use Rattle.k2_tree.proofs.upper.ones_within.Goals as goal
-use Rattle.k2_tree.proofs.upper.ones_within.Goals.{After-word}
+use Rattle.k2_tree.proofs.counting.ones_within.Goals as goal
+use Rattle.k2_tree.proofs.counting.ones_within.Goals.{After-word}
 
 -- the ones of the part
 part_of : (c : After-word) → count_ones (c.word.result / 2 ^ (c.loop-place.place % 64)

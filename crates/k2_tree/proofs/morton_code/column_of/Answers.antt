@@ -2,8 +2,8 @@ use Rattle.std.proofs.Common.{◌≡◌, ◌/◌, ◌^◌, ap, arith, refl, ◌�
 use Rattle.std.proofs.Math.Nat.{div-one}
 use Rattle.k2_tree.specs.Morton.{morton_column}
 use Rattle.k2_tree.proofs.MortonLemmas.{morton_column-lt}
-use Rattle.box_tree.proofs.ColumnLemmas.{column-few, column-part}
-use Rattle.box_tree.proofs.grid_square.column_in.Goals as goal
+use Rattle.k2_tree.proofs.ColumnLemmas.{column-few, column-part}
+use Rattle.k2_tree.proofs.morton_code.column_of.Goals as goal
 
 pub loop-part-init : goal.loop-part-init
 unfolding morton_column

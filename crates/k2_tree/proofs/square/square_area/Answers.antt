@@ -4,7 +4,7 @@ use Rattle.track_types.specs.declared.limit.TheConstants.{MAX_HEIGHT}
 use Rattle.track_types.proofs.BoxLemmas.{same_box}
 use Rattle.k2_tree.proofs.AreaLemmas.{base_within, before-lt, moved_is}
 use Rattle.k2_tree.proofs.MortonLemmas.{ends_back}
-use Rattle.box_tree.proofs.grid_square.square_area.Goals as goal
+use Rattle.k2_tree.proofs.square.square_area.Goals as goal
 
 pub returns-clause-value : goal.returns-clause-value
 returns-clause-value c =

@@ -1,7 +1,7 @@
 use Rattle.std.proofs.Common.{◌≡◌, ℕ, ◌+◌, ◌*◌, ◌/◌, ◌%◌, ◌^◌, ◌<◌, arith}
 use Rattle.k2_tree.specs.Morton.{morton_column}
-use Rattle.box_tree.proofs.SquareLemmas.{by_width, column-one, column-two}
-use Rattle.box_tree.proofs.grid_square.digit_column.Goals as goal
+use Rattle.k2_tree.proofs.PlaceLemmas.{by_width, column-one, column-two}
+use Rattle.k2_tree.proofs.square.digit_column.Goals as goal
 
 pub returns-clause-value : goal.returns-clause-value
 returns-clause-value c =
