@@ -1,7 +1,7 @@
 -- Leaf order: a permutation of places that goes by number, then by place, and what a sort of leaves leaves.
 use Rattle.std.proofs.Common.{◌≡◌, ℕ, zero, suc, ◌+◌, ◌<◌, ◌≤◌, List, [], ◌∷◌, length, get_or, inl, inr, sym, ap, ◌∙◌, arith, map, subst, refl}
 use Rattle.std.specs.Prelude.{All, slice_index}
-use Rattle.std.specs.List.{AllByRecursion, range_with_len}
+use Rattle.std.specs.List.{AllByRecursion, Contains, range_with_len}
 use Rattle.std.specs.List.Sorted.{IsPermutation, IsSorted, IsSortedByKey, IsStrictlySortedBy}
 use Rattle.std.specs.Ordering.{is_lt, nat_cmp, on, then_cmp}
 use Rattle.std.specs.declared.cmp.Ordering.TheVariants.{Less}
@@ -15,7 +15,7 @@ use Rattle.std.proofs.lemmas.Cmp.{nat_cmp_total, on_total, then_total}
 use Rattle.std.proofs.lemmas.Map.Keys.{sorted_from_all_adjacent, Less-from_sorted}
 use Rattle.list_laws.specs.Ordered.{ordered, insert_in_order}
 use Rattle.list_laws.proofs.OrderedLemmas.{IsPermutation-ordered, all-ordered, all-insert_in_order}
-use Rattle.list_laws.proofs.ApartLemmas.{same_from_sorted}
+use Rattle.list_laws.proofs.ApartLemmas.{ordered-permutation, same_from_sorted}
 use Rattle.object_perm.specs.Permutation.{PermutesPlaces}
 use Rattle.track_types.specs.declared.frame.Frame.{Frame}
 use Rattle.track_types.specs.declared.limit.TheConstants.{MAX_OBJECTS}
@@ -23,6 +23,7 @@ use Rattle.movement_log.specs.declared.head.Head.{Head}
 use Rattle.k2_tree.specs.Morton.{morton_of}
 use Rattle.k2_tree.proofs.ToldLemmas.{morton_bits-none}
 use Rattle.snapshots.specs.View.{widths_in}
+use Rattle.chart_parts.proofs.DealtLemmas.{permutation_from_strict}
 use Rattle.chart_parts.specs.LeafOrder.{by_code, leaf_codes, leaf_order, distinct_codes, ends_of}
 use Rattle.chart_parts.specs.Leaf.{LeafView, number_of}
 use Rattle.chart_parts.specs.PeriodWith.{codes_of_heads, block_leaf, no_head, period_with, presence_of, without_blocks}
@@ -191,16 +192,28 @@ module _ (frame : Frame) (heads : List Head) where
         get_or-map (block_leaf frame heads) (leaf_order codes) (k + 1) 0 (block_leaf frame heads 0) (omega arith),
       ) (grind (arith, nat_tests)))
 
+  placed : IsPermutation leaves_from in_order
+  placed =
+      subst (λ n. IsPermutation (map (block_leaf frame heads) (range_with_len 0 n)) in_order) many
+      (IsPermutation-map (block_leaf frame heads) (range_with_len 0 (length codes)) (leaf_order codes)
+      (IsPermutation-leaf_order codes))
+
   -- leaves that are sorted by their numbers are those of the places in leaf order
   pub sorted_leaves : length heads ≤ MAX_OBJECTS → (sorted : List LeafView) → IsPermutation leaves_from sorted →
       IsSortedByKey number_of nat_cmp sorted → sorted ≡ in_order
   sorted_leaves few sorted moved up =
-      let placed : IsPermutation leaves_from in_order =
-      subst (λ n. IsPermutation (map (block_leaf frame heads) (range_with_len 0 n)) in_order) many
-      (IsPermutation-map (block_leaf frame heads) (range_with_len 0 (length codes)) (leaf_order codes)
-      (IsPermutation-leaf_order codes)) in
       same_from_sorted (on_total number_of nat_cmp_total) in_order sorted (rising-leaves few)
       (IsPermutation-trans in_order leaves_from sorted (IsPermutation-sym leaves_from in_order placed) moved) up
+
+  -- so are as many of them, of which each has a greater number than the one before
+  pub rising-order : length heads ≤ MAX_OBJECTS → (leaves : List LeafView) → All (Contains leaves_from) leaves →
+      length leaves ≡ length leaves_from → IsStrictlySortedBy (on number_of nat_cmp) leaves → leaves ≡ in_order
+  rising-order few leaves among same up =
+      let o = on_total number_of nat_cmp_total in
+      let moved =
+      permutation_from_strict o leaves_from leaves up (recursion_from_All (Contains leaves_from) leaves among) same in
+      ordered-permutation o leaves leaves_from up (IsPermutation-sym leaves_from leaves moved)
+      ∙ sym (ordered-permutation o in_order leaves_from (rising-leaves few) (IsPermutation-sym leaves_from in_order placed))
 
   -- the places of leaves, and their numbers in leaf order
   pub places-leaves : (places : List ℕ) → map (λ leaf. leaf.place) (map (block_leaf frame heads) places) ≡ places

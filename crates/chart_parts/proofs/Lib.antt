@@ -7,6 +7,7 @@ pub mod GrammarLemmas
 pub mod AlongLemmas
 pub mod RuleLemmas
 pub mod LogLemmas
+pub mod DealtLemmas
 pub mod LeafOrderLemmas
 pub mod LeafEndLemmas
 pub mod PresenceLemmas

@@ -6,11 +6,15 @@ ghost use Rattle.snapshots.specs.View.{widths_in};
 ghost use Rattle.k2_tree.specs.TreeBits.{Rises, morton_bits};
 ghost use Rattle.track_types.specs.declared.limit.TheConstants.{MAX_HEIGHT, MAX_OBJECTS};
 
+use crate::digit_sort::{dealt, rises};
 use crate::leaf::Leaf;
 use k2_tree::{bits_of_codes, morton};
 use movement_log::Head;
 use std::alloc::{AllocError, Global};
 use track_types::{BitList, Frame, Memory};
+
+// So many leaves are sorted faster by their digits than by comparisons.
+const MANY: usize = 512;
 
 /// The leaves of a period's blocks, by Morton number, then by object.
 pub(crate) fn leaves_of(
@@ -23,6 +27,14 @@ pub(crate) fn leaves_of(
         ≡ map (block_leaf frame heads.now) (leaf_order (codes_of_heads frame heads.now))) }
     ensures few { IfOk result (λ leaves. length leaves.items ≡ length heads.now) }
 {
+    if heads.len() >= MANY {
+        let by_object = leaves_by_object(alloc, frame, heads)?;
+        let leaves = dealt(alloc, by_object, frame.height)?;
+        // It always does; this is how it is proved.
+        if rises(leaves.as_slice()) {
+            return Ok(leaves);
+        }
+    }
     let mut leaves = leaves_by_object(alloc, frame, heads)?;
     // By place too, so that the blocks of one cell stand in the order of their objects.
     leaves.sort_unstable_by_key(|leaf| leaf.number());

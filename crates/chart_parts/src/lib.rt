@@ -5,6 +5,7 @@
 //! from. `period_with` makes the parts of a period from any blocks, as `specs/PeriodWith.antt` says.
 #![tactic(auto)]
 
+mod digit_sort;
 mod header;
 mod leaf;
 mod leaves;
