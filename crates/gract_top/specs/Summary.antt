@@ -2,7 +2,7 @@
 use Rattle.std.specs.Prelude.{ℕ, ◌-◌, ◌/◌, min, pos, List, [], ◌∷◌, ◌++◌, length, None}
 use Rattle.std.specs.List.{flat_map, sum_by}
 use Rattle.question_shell.specs.Desk.{empty_desk, held_of}
-use Rattle.question_shell.specs.Grammar.{AreAsked}
+use Rattle.question_shell.specs.Kinds.{AreAsked}
 use Rattle.question_shell.specs.Items.{items_of}
 use Rattle.question_shell.specs.Reply.{listed, ok_line}
 use Rattle.question_shell.specs.SlotParts.{OfNoSlot, SlotPart, slot_part}

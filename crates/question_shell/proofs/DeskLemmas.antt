@@ -13,8 +13,10 @@ use Rattle.track_types.specs.declared.stop.Stop.{Stop}
 use Rattle.question_shell.specs.Desk.{DeskView, Draws, NeedsNoMore, NeedsWithin, budget_in, budget_of, held_of}
 use Rattle.question_shell.specs.Desk.{is_held_in, no_needs, slot_needs, slot_stops, slot_walk}
 use Rattle.question_shell.specs.Items.{stops_at}
-use Rattle.question_shell.specs.Needs.{needs_after}
-use Rattle.question_shell.specs.Session.{takes_memory}
+use Rattle.question_shell.specs.Kinds.{own_memory}
+use Rattle.question_shell.specs.Needs.{needs_after, slot_needs_after}
+use Rattle.question_shell.specs.Session.{slot_memory, takes_memory}
+use Rattle.question_shell.specs.SlotParts.{OfNoSlot, SlotPart, ToDraw, ToEmpty, ToHold, slot_part}
 
 -- a desk by its places, of which each shows what is seen of its walk
 module _ {W : Type 0} (seen : W → List Stop × ℕ) (places : List (Option W)) (desk : DeskView) (slot : ℕ)
@@ -190,17 +192,15 @@ module _ {W : Type 0} (needs : W → Read → Bool) where
   pub needs-refused : (asks : Question → Read → Bool) (desk : List (Option (List Stop))) (walks : List (Option W))
       (asked : Question) → takes_memory desk (Ok (Some asked)) ≡ true →
       NeedsWithin needs walks (needs_after asks (slot_needs needs walks) asked)
-  needs-refused asks desk walks (question.Position object instant) takes place read is = is
-  needs-refused asks desk walks (question.Path object from to) takes place read is = is
-  needs-refused asks desk walks (question.Slice instant region) takes place read is = is
-  needs-refused asks desk walks (question.Interval from to region) takes place read is = is
-  needs-refused asks desk walks (question.Nearest count instant cell) takes place read is = is
-  needs-refused asks desk walks (question.Meet left right from to reach) takes place read is = is
-  needs-refused asks desk walks (question.Hold slot object from to) takes place read is =
-      either-left (slot_needs needs walks place read) (slot == place && asks (question.Path object from to) read) is
-  needs-refused asks desk walks (question.More slot count) takes place read is = is
-  needs-refused asks desk walks (question.Free slot) takes place read is = absurd (cc takes)
-  needs-refused asks desk walks question.Info takes place read is = is
+  needs-refused asks desk walks asked = by_part (own_memory asked) (slot_part asked)
+    where
+      by_part : (own : Bool) (part : SlotPart) → slot_memory own desk part ≡ true →
+          NeedsWithin needs walks (slot_needs_after asks (slot_needs needs walks) part)
+      by_part own (ToHold slot object from to) takes place read is =
+          either-left (slot_needs needs walks place read) (slot == place && asks (question.Path object from to) read) is
+      by_part own (ToDraw slot count) takes place read is = is
+      by_part own (ToEmpty slot) takes place read is = absurd (cc takes)
+      by_part own OfNoSlot takes place read is = is
 
   -- what is needed where the walk in a place was drawn from
   pub needs-drawn : (walks : List (Option W)) (slot : ℕ) (old new : W) (default : Option W) →

@@ -13,9 +13,9 @@ use Rattle.track_types.specs.declared.question.Question.{Question}
 use Rattle.track_types.specs.declared.question.Question.TheVariants as question
 use Rattle.track_types.specs.declared.stop.Stop.{Stop}
 use Rattle.question_shell.specs.Desk.{DeskView, Draws, budget_of, held_of, is_held_in, slot_walk, slot_stops}
-use Rattle.question_shell.specs.Drawing.{AnswerNeeds, GivesItems, IsAnswer, IsOfDesk, desk_left, items_left, reads_left}
+use Rattle.question_shell.specs.Drawing.{AnswerNeeds, GivesItems, IsAnswer, IsOfDesk, desk_left, reads_left}
+use Rattle.question_shell.specs.Items.{items_left, items_of, line_of, stops_at}
 use Rattle.question_shell.specs.Drawing.{refusal_left}
-use Rattle.question_shell.specs.Items.{items_of, line_of, stops_at}
 use Rattle.question_shell.specs.Reply.{hold_cost, last_line, listed, refusal_of}
 use Rattle.question_shell.specs.Says.{Cuts, Puts, Says, Voice, voice}
 use Rattle.question_shell.specs.Session.{Meaning}
@@ -42,7 +42,7 @@ module _ {W : Type 0} {left : W → List Stop} {budget : W → ℕ} where
   gives-more {now = now} {after = after} {done = done} {found = found} gives more = record {
     slot = more.slot;
     items = gives.items
-        ∙ (ap (λ rest. done ++ rest) more.items ∙ sym (append_assoc done found (items_left left budget now after)));
+        ∙ (ap (λ rest. done ++ rest) more.items ∙ sym (append_assoc done found (items_left left now after)));
     refusal = more.refusal ∙ gives.refusal;
     held = more.held ∙ gives.held;
     reads = omega (arith, gives.reads, more.reads);
@@ -64,12 +64,12 @@ module _ {W : Type 0} {left : W → List Stop} {budget : W → ℕ} where
   module _ {meaning : Meaning} {asked : Question} {before desk : DeskView} {start end : ℕ} {answer : Answer W}
       (is : IsAnswer left budget meaning asked before start answer desk end) (said0 : List ℕ) (text0 : List ℕ)
     where
-      same : listed (items_left left budget answer desk) (refusal_left answer)
+      same : listed (items_left left answer desk) (refusal_left answer)
           ≡ listed (items_of meaning.chart meaning.facts (held_of before) asked) (refusal_of (held_of before) asked)
       same = rw (is.items, is.refusal) refl
 
       pub takes-answer : (said : List ℕ) (text : List ℕ) (after : DeskView) (last : ℕ) →
-          Says (voice said0 text0) (voice said text) (listed (items_left left budget answer desk) (refusal_left answer)) →
+          Says (voice said0 text0) (voice said text) (listed (items_left left answer desk) (refusal_left answer)) →
           held_of after ≡ desk_left left budget answer desk →
           last + budget_of after ≤ end + reads_left left budget answer desk →
           Takes meaning (moment said0 text0 before start) (moment said text after last) (Ok (Some asked))
@@ -80,7 +80,7 @@ module _ {W : Type 0} {left : W → List Stop} {budget : W → ℕ} where
       }
 
       pub front-answer : (said : List ℕ) (text : List ℕ) (after : DeskView) (last : ℕ) →
-          Cuts (voice said0 text0) said (listed (items_left left budget answer desk) (refusal_left answer)) →
+          Cuts (voice said0 text0) said (listed (items_left left answer desk) (refusal_left answer)) →
           last + budget_of after ≤ end + reads_left left budget answer desk →
           TakesFront meaning (moment said0 text0 before start) (moment said text after last) (Ok (Some asked))
       front-answer said text after last cuts reads = record {

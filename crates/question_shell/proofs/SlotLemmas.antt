@@ -9,7 +9,8 @@ use Rattle.track_types.specs.declared.facts.Facts.{Facts}
 use Rattle.track_types.specs.declared.question.Question.{Question}
 use Rattle.track_types.specs.declared.stop.Stop.{Stop}
 use Rattle.question_shell.specs.Grammar.{question_of}
-use Rattle.question_shell.specs.Items.{items_in, slot_items, stops_at}
+use Rattle.question_shell.specs.Items.{slot_items, stops_at}
+use Rattle.question_shell.specs.Kinds.{items_in}
 use Rattle.question_shell.specs.Replies.{turn_of}
 use Rattle.question_shell.specs.Reply.{Turn, asked_turn, listed, slot_desk, slot_refusal}
 use Rattle.question_shell.specs.Session.{AreIndependent, Meaning}

@@ -1,18 +1,16 @@
 -- What is left of an answer, while its items are drawn.
-use Rattle.std.specs.Prelude.{◌≡◌, ℕ, ◌+◌, ◌<◌, ◌≤◌, ◌^◌, ⊤, List, [], ◌++◌, drop, length, map, take, Option, Some, None, Ok}
-use Rattle.std.specs.Prelude.{Bool, option_map, option_to_list, slice_set}
+use Rattle.std.specs.Prelude.{◌≡◌, ℕ, ◌+◌, ◌<◌, ◌≤◌, ◌^◌, ⊤, List, [], ◌++◌, drop, length, Option, Some, None, Ok}
+use Rattle.std.specs.Prelude.{Bool, option_map, slice_set}
 use Rattle.step_count.specs.Reads.{Read, ReadsWithin}
 use Rattle.track_types.specs.declared.question.Question.{Question}
 use Rattle.track_types.specs.declared.stop.Stop.{Stop}
 use Rattle.question_shell.specs.Desk.{DeskView, NeedsNoMore, NeedsWithin, budget_of, held_of, no_needs, slot_needs}
-use Rattle.question_shell.specs.Desk.{slot_stops}
-use Rattle.question_shell.specs.Items.{items_of, stops_at}
+use Rattle.question_shell.specs.Items.{items_left, items_of, stops_at}
 use Rattle.question_shell.specs.Reply.{asked_cost, desk_of, free_line, held_line, refusal_of}
 use Rattle.question_shell.specs.Session.{Meaning}
 use Rattle.question_shell.specs.declared.answer.Answer.{Answer}
 use Rattle.question_shell.specs.declared.answer.Answer.TheVariants as answer
 use Rattle.question_shell.specs.declared.item.Item.{Item}
-use Rattle.question_shell.specs.declared.item.Item.TheVariants as item
 
 -- The slot that an answer draws from is one of the desk's 16.
 abbrev pub IsOfDesk : {W : Type 0} → Answer W → Type 0
@@ -26,17 +24,6 @@ refusal_left answer.Free = Some free_line
 refusal_left other = None
 
 module _ {W : Type 0} (left : W → List Stop) (budget : W → ℕ) where
-  -- the items that are left
-  abbrev pub items_left : Answer W → DeskView → List Item
-  items_left (answer.One found) desk = option_to_list found
-  items_left (answer.Walk walk) desk = map item.Stop (left walk)
-  items_left (answer.Sightings found) desk = map item.Sighting found
-  items_left (answer.Hits found) desk = map item.Hit found
-  items_left (answer.Nears found) desk = map item.Near found
-  items_left (answer.Facts facts) desk = map item.Fact facts
-  items_left (answer.More slot count) desk = map item.Stop (take count (slot_stops desk slot))
-  items_left other desk = []
-
   -- what the desk will hold once they are drawn
   abbrev pub desk_left : Answer W → DeskView → List (Option (List Stop))
   desk_left (answer.More slot count) desk =
@@ -51,14 +38,14 @@ module _ {W : Type 0} (left : W → List Stop) (budget : W → ℕ) where
   -- Some items were drawn, and what was read is taken from what may be read.
   pub record GivesItems (before now : Answer W) (desk after : DeskView) (start end : ℕ) (found : List Item) : Type 0 where
     pub slot : IsOfDesk now
-    pub items : items_left before desk ≡ found ++ items_left now after
+    pub items : items_left left before desk ≡ found ++ items_left left now after
     pub refusal : refusal_left now ≡ refusal_left before
     pub held : desk_left now after ≡ desk_left before desk
     pub reads : end + reads_left now after ≤ start + reads_left before desk
 
   -- No item is left, and the desk is as it should be.
   pub record IsDrawn (now : Answer W) (desk : DeskView) : Type 0 where
-    pub items : items_left now desk ≡ []
+    pub items : items_left left now desk ≡ []
     pub held : desk_left now desk ≡ held_of desk
 
 -- A question was asked: the answer will bring what the question does, its items are those that it finds, and no more is
@@ -66,8 +53,8 @@ module _ {W : Type 0} (left : W → List Stop) (budget : W → ℕ) where
 pub record IsAnswer {W : Type 0} (left : W → List Stop) (budget : W → ℕ) (meaning : Meaning) (asked : Question)
     (before : DeskView) (start : ℕ) (answer : Answer W) (desk : DeskView) (end : ℕ) : Type 0 where
   pub slot : IsOfDesk answer
-  pub items : items_left left budget answer desk ≡ items_of meaning.chart meaning.facts (held_of before) asked
-  pub few : length (items_left left budget answer desk) < 2 ^ 64
+  pub items : items_left left answer desk ≡ items_of meaning.chart meaning.facts (held_of before) asked
+  pub few : length (items_left left answer desk) < 2 ^ 64
   pub refusal : refusal_left answer ≡ refusal_of (held_of before) asked
   pub held : desk_left left budget answer desk ≡ desk_of meaning.chart (held_of before) asked
   pub reads : end + reads_left left budget answer desk

@@ -1,10 +1,11 @@
 pub mod Lines
 pub mod NumberWords
 pub mod RegionWords
+pub mod Kinds
 pub mod Grammar
 pub mod Desk
-pub mod Needs
 pub mod SlotParts
+pub mod Needs
 pub mod Items
 pub mod Reply
 pub mod Replies

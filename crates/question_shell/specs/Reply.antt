@@ -10,6 +10,7 @@ use Rattle.track_types.specs.declared.question.Question.{Question}
 use Rattle.track_types.specs.declared.question.Question.TheVariants as question
 use Rattle.track_types.specs.declared.stop.Stop.{Stop}
 use Rattle.question_shell.specs.Items.{items_of, line_of, said_line, stops_at}
+use Rattle.question_shell.specs.Kinds.{own_cost}
 use Rattle.question_shell.specs.SlotParts.{OfNoSlot, SlotPart, ToDraw, ToEmpty, ToHold, slot_part}
 use Rattle.question_shell.specs.declared.bad.Bad.{Bad}
 use Rattle.question_shell.specs.declared.bad.Bad.TheVariants as bad
@@ -97,11 +98,6 @@ asked_turn chart facts desk (Err bad) = only_text desk (bad_line bad)
 abbrev pub hold_cost : ℕ → Option (List Stop) → ℕ
 hold_cost cost None = cost
 hold_cost cost (Some held) = 0
-
--- what a question costs that is about no slot: nothing for `info`
-abbrev pub own_cost : (Question → ℕ) → Question → ℕ
-own_cost cost question.Info = 0
-own_cost cost other = cost other
 
 -- what is asked of a slot costs: what holding does, nothing for `more` and `free`, and this where nothing is asked
 abbrev pub slot_cost : ℕ → (Question → ℕ) → List (Option (List Stop)) → SlotPart → ℕ

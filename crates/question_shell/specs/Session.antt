@@ -12,13 +12,14 @@ use Rattle.track_types.specs.declared.answerer.Answerer.{Ghosts as OfAnswerer}
 use Rattle.track_types.specs.declared.facts.Facts.{Facts}
 use Rattle.track_types.specs.declared.limit.LimitKind.TheVariants.{Questions}
 use Rattle.track_types.specs.declared.question.Question.{Question}
-use Rattle.track_types.specs.declared.question.Question.TheVariants as question
 use Rattle.track_types.specs.declared.stop.Stop.{Stop}
 use Rattle.question_shell.specs.Desk.{DeskView, budget_of, held_of}
 use Rattle.question_shell.specs.Grammar.{question_of}
 use Rattle.question_shell.specs.Lines.{input_lines, whole_lines}
 use Rattle.question_shell.specs.Replies.{costs_of, desk_after, replies_of}
 use Rattle.question_shell.specs.Items.{stops_at}
+use Rattle.question_shell.specs.Kinds.{own_memory}
+use Rattle.question_shell.specs.SlotParts.{OfNoSlot, SlotPart, ToDraw, ToEmpty, ToHold, slot_part}
 use Rattle.question_shell.specs.Slots.{lines_of_slot, replies_to_each, replies_to_slot}
 use Rattle.question_shell.specs.declared.bad.Bad.{Bad}
 
@@ -119,15 +120,17 @@ pub record AnswersFirst (meaning : Meaning) (before now : Run) : Type 0 where
   pub past : length bytes ≡ limit_of Questions + 1
   pub answers : Answers meaning before now (whole_lines (take (limit_of Questions) bytes))
 
+-- whether what is asked of a slot takes memory: holding an empty one does, and this where nothing is asked
+abbrev pub slot_memory : Bool → List (Option (List Stop)) → SlotPart → Bool
+slot_memory own desk (ToHold slot object from to) = is_none (stops_at desk slot)
+slot_memory own desk (ToDraw slot count) = false
+slot_memory own desk (ToEmpty slot) = false
+slot_memory own desk OfNoSlot = own
+
 -- whether answering this takes memory, where the desk holds these walks
 abbrev pub takes_memory : List (Option (List Stop)) → Result (Option Question) Bad → Bool
 takes_memory desk (Ok None) = false
-takes_memory desk (Ok (Some (question.Position object instant))) = false
-takes_memory desk (Ok (Some question.Info)) = false
-takes_memory desk (Ok (Some (question.Hold slot object from to))) = is_none (stops_at desk slot)
-takes_memory desk (Ok (Some (question.More slot count))) = false
-takes_memory desk (Ok (Some (question.Free slot))) = false
-takes_memory desk (Ok (Some other)) = true
+takes_memory desk (Ok (Some asked)) = slot_memory (own_memory asked) desk (slot_part asked)
 takes_memory desk (Err bad) = false
 
 -- One of the lines takes memory, where the desk is the one after the lines before it, which are these.

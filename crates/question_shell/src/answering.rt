@@ -3,7 +3,7 @@ ghost use Rattle.step_count.specs.Reads.{ReadsWithin};
 ghost use Rattle.host_ports.specs.Faults.{Rose};
 ghost use Rattle.host_ports.specs.Counting.{SinkCounts};
 ghost use Rattle.question_shell.specs.Desk.{NeedsWithin, slot_needs};
-ghost use Rattle.question_shell.specs.Grammar.{AreAsked};
+ghost use Rattle.question_shell.specs.Kinds.{AreAsked};
 ghost use Rattle.question_shell.specs.Needs.{needs_after, question_needs};
 ghost use Rattle.question_shell.specs.Session.{meaning_by};
 ghost use Rattle.question_shell.specs.Turns.{AnswerTold, moment};

@@ -6,7 +6,7 @@ ghost use Rattle.track_types.specs.declared.question.Question.{Question};
 ghost use Rattle.track_types.specs.declared.question.Question.TheVariants as question;
 ghost use Rattle.question_shell.specs.Desk.{DeskView, held_of, no_needs, slot_needs};
 ghost use Rattle.question_shell.specs.Drawing.{AnswerWithin, IsAnswer};
-ghost use Rattle.question_shell.specs.Grammar.{AreAsked};
+ghost use Rattle.question_shell.specs.Kinds.{AreAsked};
 ghost use Rattle.question_shell.specs.Needs.{needs_after, question_needs};
 ghost use Rattle.question_shell.specs.Reply.{asked_cost};
 ghost use Rattle.question_shell.specs.Session.{Meaning, meaning_by, takes_memory};

@@ -2,10 +2,10 @@ ghost use Rattle.std.specs.Prelude.{◌≡◌, ◌+◌, ◌<◌, ◌^◌, ◌≤
 ghost use Rattle.step_count.specs.Reads.{ReadsWithin};
 ghost use Rattle.question_shell.specs.Desk.{NeedsNoMore, NeedsWithin, budget_of, held_of};
 ghost use Rattle.question_shell.specs.Desk.{slot_needs};
-ghost use Rattle.question_shell.specs.Drawing.{IsOfDesk, desk_left, items_left, needs_left};
+ghost use Rattle.question_shell.specs.Drawing.{IsOfDesk, desk_left, needs_left};
+ghost use Rattle.question_shell.specs.Items.{items_left, items_of};
 ghost use Rattle.question_shell.specs.Drawing.{reads_left};
-ghost use Rattle.question_shell.specs.Grammar.{AreAsked};
-ghost use Rattle.question_shell.specs.Items.{items_of};
+ghost use Rattle.question_shell.specs.Kinds.{AreAsked};
 ghost use Rattle.question_shell.specs.Needs.{needs_after, question_needs};
 ghost use Rattle.question_shell.specs.Reply.{asked_cost, desk_of};
 
@@ -50,9 +50,9 @@ fn count_left<W: Lazy<Item = Stop> + Drop, L: Reads>(
     steps: &mut Steps<L>,
 ) -> u64
     requires slot { IsOfDesk answer.old }
-    requires few { length (items_left W.left W.budget answer.old desk.old.view) < 2 ^ 64 }
+    requires few { length (items_left W.left answer.old desk.old.view) < 2 ^ 64 }
     requires may { ReadsWithin (needs_left W.needs answer.old desk.old.walks) L.may }
-    ensures count { result ≡ length (items_left W.left W.budget answer.old desk.old.view) }
+    ensures count { result ≡ length (items_left W.left answer.old desk.old.view) }
     ensures desk { held_of desk.new.view ≡ desk_left W.left W.budget answer.old desk.old.view }
     ensures reads { steps.new + budget_of desk.new.view
         ≤ steps.old + reads_left W.left W.budget answer.old desk.old.view }

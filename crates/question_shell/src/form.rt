@@ -1,5 +1,6 @@
 ghost use Rattle.std.specs.Prelude.{◌≡◌, OnOk};
-ghost use Rattle.question_shell.specs.Grammar.{AreAsked, form_of, form_question, place_told};
+ghost use Rattle.question_shell.specs.Grammar.{place_told};
+ghost use Rattle.question_shell.specs.Kinds.{AreAsked, form_of, form_question};
 ghost use Rattle.question_shell.specs.Lines.{words_of};
 ghost use Rattle.question_shell.specs.declared.form.Form.TheVariants as form;
 

@@ -1,5 +1,6 @@
 ghost use Rattle.std.specs.Prelude.{◌≡◌, IfOk, IfSome, Ok, true};
-ghost use Rattle.question_shell.specs.Grammar.{AreAsked, line_told, question_of};
+ghost use Rattle.question_shell.specs.Grammar.{line_told, question_of};
+ghost use Rattle.question_shell.specs.Kinds.{AreAsked};
 
 use crate::bad::Bad;
 use crate::form::{Form, read_form};

@@ -1,5 +1,6 @@
 ghost use Rattle.std.specs.Prelude.{◌≡◌, ℕ, ◌∷◌, [], ◌++◌, List, Ok, true};
-ghost use Rattle.question_shell.specs.Grammar.{AreAsked, line_told, question_of};
+ghost use Rattle.question_shell.specs.Grammar.{line_told, question_of};
+ghost use Rattle.question_shell.specs.Kinds.{AreAsked};
 ghost use Rattle.question_shell.specs.LineKept.{kept_of};
 
 use crate::bad::Bad;

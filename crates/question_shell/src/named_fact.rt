@@ -1,5 +1,6 @@
 ghost use Rattle.std.specs.Prelude.{◌≡◌, ◌≤◌, ◌+◌, ◌++◌, ◌∷◌, [], IfNone, IfSome, drop, option_to_list, length};
-ghost use Rattle.question_shell.specs.Items.{fact_line, named_facts};
+ghost use Rattle.question_shell.specs.Items.{fact_line};
+ghost use Rattle.question_shell.specs.Kinds.{named_facts};
 
 use crate::reply_line::ReplyLine;
 use itoa::Buffer;
@@ -49,7 +50,7 @@ pub struct NamedFacts {
 
 impl Model for NamedFacts {
     ghost use Rattle.std.specs.Prelude.{ℕ, ℤ, List, drop};
-    ghost use Rattle.question_shell.specs.Items.{named_facts};
+    ghost use Rattle.question_shell.specs.Kinds.{named_facts};
 
     ghost Value = { List (List ℕ × ℤ) };
 

@@ -2,7 +2,8 @@ ghost use Rattle.std.specs.Prelude.{true, is_err, ◌≡◌, ◌+◌, ◌<◌, �
 ghost use Rattle.step_count.specs.Reads.{ReadsWithin};
 ghost use Rattle.host_ports.specs.Counting.{SinkCounts};
 ghost use Rattle.question_shell.specs.Desk.{NeedsNoMore, budget_of, held_of};
-ghost use Rattle.question_shell.specs.Drawing.{IsOfDesk, desk_left, items_left, needs_left};
+ghost use Rattle.question_shell.specs.Drawing.{IsOfDesk, desk_left, needs_left};
+ghost use Rattle.question_shell.specs.Items.{items_left};
 ghost use Rattle.question_shell.specs.Drawing.{reads_left, refusal_left};
 ghost use Rattle.question_shell.specs.Reply.{listed};
 ghost use Rattle.question_shell.specs.Says.{Puts, voice};
@@ -43,10 +44,10 @@ pub(crate) fn say_answer<W: Lazy<Item = Stop> + Drop, K: Sink, L: Reads>(
     steps: &mut Steps<L>,
 ) -> Result<(), Cut>
     requires slot { IsOfDesk answer.old }
-    requires few { length (items_left W.left W.budget answer.old desk.old.view) < 2 ^ 64 }
+    requires few { length (items_left W.left answer.old desk.old.view) < 2 ^ 64 }
     requires may { ReadsWithin (needs_left W.needs answer.old desk.old.walks) L.may }
     ensures told { Puts (voice (K.said sink.old) text.old) (voice (K.said sink.new) text.new)
-        (listed (items_left W.left W.budget answer.old desk.old.view)
+        (listed (items_left W.left answer.old desk.old.view)
         (refusal_left answer.old)) result }
     ensures desk { OnOk result (
         held_of desk.new.view ≡ desk_left W.left W.budget answer.old desk.old.view) }
@@ -92,10 +93,10 @@ fn say_items<W: Lazy<Item = Stop> + Drop, K: Sink, L: Reads>(
     steps: &mut Steps<L>,
 ) -> Result<(), Cut>
     requires slot { IsOfDesk answer.old }
-    requires few { length (items_left W.left W.budget answer.old desk.old.view) < 2 ^ 64 }
+    requires few { length (items_left W.left answer.old desk.old.view) < 2 ^ 64 }
     requires may { ReadsWithin (needs_left W.needs answer.old desk.old.walks) L.may }
     ensures told { Puts (voice (K.said sink.old) text.old) (voice (K.said sink.new) text.new)
-        (listed (items_left W.left W.budget answer.old desk.old.view)
+        (listed (items_left W.left answer.old desk.old.view)
         (refusal_left answer.old)) result }
     ensures desk { OnOk result (
         held_of desk.new.view ≡ desk_left W.left W.budget answer.old desk.old.view) }

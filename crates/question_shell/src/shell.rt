@@ -20,14 +20,15 @@ const PIECE: usize = 4096;
 ///
 /// Every whole line that came is answered before more is listened to. At most 2^32 bytes are
 /// answered, and one byte more is listened to, in pieces of at most 4,096. Memory is taken only for
-/// the lines `path`, `slice`, `interval`, `nearest` and `meet`, and for a `hold` whose slot is empty.
+/// questions of any kind but `position`, `info`, `more` and `free`, and for no `hold` whose slot is
+/// held (`takes_memory`).
 ///
 /// `Listen` comes only where the source failed, and then the whole lines that came were answered.
 /// `Say` comes only where the sink failed, and then a front of the replies was said and nothing
 /// more was listened to. `Limit` comes where more than 2^32 bytes came, and then the whole lines
-/// among the first 2^32 were answered. After `Memory` exactly the lines before one of these six were
-/// answered. The count of faults of a device that the answer does not name is what it was, so that
-/// devices without a fault have `Ok`, `Limit` or `Memory`.
+/// among the first 2^32 were answered. After `Memory` exactly the lines before one that takes it
+/// were answered. The count of faults of a device that the answer does not name is what it was, so
+/// that devices without a fault have `Ok`, `Limit` or `Memory`.
 pub fn run<A: Meets, S: Source, K: Sink, L: Reads>(
     alloc: Global,
     answerer: A,

@@ -1,7 +1,8 @@
 ghost use Rattle.std.specs.Prelude.{◌≡◌, ◌∷◌, [], IfOk};
 ghost use Rattle.track_types.specs.Region.{IsRegionAsked};
 ghost use Rattle.track_types.specs.declared.question.Question.TheVariants as question;
-ghost use Rattle.question_shell.specs.Grammar.{AreAsked, IsTimeAsked, asks_of, form_words, time_question};
+ghost use Rattle.question_shell.specs.Grammar.{asks_of};
+ghost use Rattle.question_shell.specs.Kinds.{AreAsked, IsTimeAsked, form_words, time_question};
 ghost use Rattle.question_shell.specs.NumberWords.{first_fault, word_number};
 ghost use Rattle.question_shell.specs.RegionWords.{unless_bad};
 ghost use Rattle.question_shell.specs.declared.form.Form.TheVariants as form;

@@ -1,5 +1,6 @@
 use Rattle.std.proofs.Common.{◌≡◌, List, length}
-use Rattle.question_shell.specs.Drawing.{AnswerNeeds, GivesItems, items_left}
+use Rattle.question_shell.specs.Drawing.{AnswerNeeds, GivesItems}
+use Rattle.question_shell.specs.Items.{items_left}
 use Rattle.question_shell.specs.declared.item.Item.{Item}
 use Rattle.question_shell.proofs.counting.count_left.Given as goal
 
@@ -13,4 +14,4 @@ invariant-items g l = record {
 }
 
 abbrev pub decreases-items : goal.decreases-items
-decreases-items g l = length (items_left g.W.Lazy.left g.W.Lazy.budget l.answer l.desk.view)
+decreases-items g l = length (items_left g.W.Lazy.left l.answer l.desk.view)

@@ -1,5 +1,5 @@
 use Rattle.std.proofs.Common.{◌∙◌, ap}
-use Rattle.question_shell.specs.Grammar.{laid_question}
+use Rattle.question_shell.specs.Kinds.{laid_question}
 use Rattle.question_shell.specs.Lines.{words_of}
 use Rattle.question_shell.specs.RegionWords.{layout_of}
 use Rattle.question_shell.proofs.form.read_interval.Goals as goal

@@ -1,7 +1,7 @@
 use Rattle.std.proofs.Common.{◌∙◌, ◌∷◌, [], ◌++◌, ap, refl, arith, length-append}
 use Rattle.std.proofs.lemmas.Result.{err_from_is_err_and}
-use Rattle.question_shell.specs.Drawing.{items_left, refusal_left}
-use Rattle.question_shell.specs.Items.{line_of}
+use Rattle.question_shell.specs.Drawing.{refusal_left}
+use Rattle.question_shell.specs.Items.{items_left, line_of}
 use Rattle.question_shell.specs.Reply.{last_line}
 use Rattle.question_shell.specs.Says.{voice}
 use Rattle.question_shell.proofs.DrawingLemmas.{cuts-next, gives-more, gives-nothing, needs-more, needs-nothing}
@@ -42,8 +42,8 @@ returns-in_err-put_item-clause-told g c =
     (cuts-next (voice (g.K.Sink.said c.args.sink.now) c.args.text.now)
     (voice (g.K.Sink.said c.loop-item.sink) c.loop-item.text) read.done c.in-Some.item (line_of c.in-Some.item)
     refl read.says (g.K.Sink.said c.put_item.new.sink)
-    (items_left g.W.Lazy.left g.W.Lazy.budget c.args.answer.now c.args.desk.now.view)
-    (items_left g.W.Lazy.left g.W.Lazy.budget c.draw.new.self c.draw.new.desk.view) (refusal_left c.args.answer.now)
+    (items_left g.W.Lazy.left c.args.answer.now c.args.desk.now.view)
+    (items_left g.W.Lazy.left c.draw.new.self c.draw.new.desk.view) (refusal_left c.args.answer.now)
     c.in_err-put_item.ensures.told all.items)
 
 pub returns-clause-told : goal.returns-clause-told
@@ -53,8 +53,8 @@ returns-clause-told g c =
     let refusal = last.gives.refusal ∙ read.gives.refusal in
     told-last (voice (g.K.Sink.said c.args.sink.now) c.args.text.now)
     (voice (g.K.Sink.said c.loop-item.sink) c.loop-item.text) (voice (g.K.Sink.said c.put.new.sink) c.put.new.self)
-    read.done (items_left g.W.Lazy.left g.W.Lazy.budget c.args.answer.now c.args.desk.now.view)
-    (items_left g.W.Lazy.left g.W.Lazy.budget c.loop-item.answer c.loop-item.desk.view)
+    read.done (items_left g.W.Lazy.left c.args.answer.now c.args.desk.now.view)
+    (items_left g.W.Lazy.left c.loop-item.answer c.loop-item.desk.view)
     (refusal_left c.args.answer.now) c.last_line.result c.put.result read.gives.items
     (last.gives.items ∙ last.none.items)
     (c.last_line.ensures ∙ (ap (λ refusal. last_line refusal c.loop-item.count) refusal

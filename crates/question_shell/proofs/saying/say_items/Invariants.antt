@@ -1,7 +1,7 @@
 use Rattle.std.proofs.Common.{◌≡◌, List, length}
 use Rattle.std.specs.List.{flat_map}
-use Rattle.question_shell.specs.Drawing.{AnswerNeeds, GivesItems, items_left}
-use Rattle.question_shell.specs.Items.{line_of}
+use Rattle.question_shell.specs.Drawing.{AnswerNeeds, GivesItems}
+use Rattle.question_shell.specs.Items.{items_left, line_of}
 use Rattle.question_shell.specs.Says.{Says, voice}
 use Rattle.question_shell.specs.declared.item.Item.{Item}
 use Rattle.question_shell.proofs.saying.say_items.Given as goal
@@ -18,4 +18,4 @@ invariant-loop-item g l = record {
 }
 
 abbrev pub decreases-loop-item : goal.decreases-loop-item
-decreases-loop-item g l = length (items_left g.W.Lazy.left g.W.Lazy.budget l.answer l.desk.view)
+decreases-loop-item g l = length (items_left g.W.Lazy.left l.answer l.desk.view)
