@@ -12,8 +12,8 @@ use crate::search::meet;
 use crate::window::Window;
 use std::alloc::Global;
 use step_count::{Reads, Steps};
-use track_index::{Index, IndexRef, PathWalk};
-use track_types::{Answerer, Cell, Facts, Hit, Meeting, Meets, Memory, Near, Region, Sighting};
+use track_index::{Index, IndexRef};
+use track_types::{Meeting, Meets, Memory};
 
 /// An index that also tells meetings, by going through two blocks of each period together. Its
 /// chart, facts, walks and other costs are those of the index.
@@ -28,70 +28,6 @@ impl<'a> IndexMeets<'a> {
         ensures { result.view.index.now ≡ index.now }
     {
         IndexMeets { view: index.view() }
-    }
-}
-
-impl<'a> Answerer for IndexMeets<'a> {
-    ghost use Rattle.encounter.specs.IndexCost.{meets_cost};
-    ghost use Rattle.snapshots.specs.Parts.{chart_in};
-    ghost use Rattle.track_index.specs.Cost.{path_cost_until};
-    ghost use Rattle.track_index.specs.Facts.{facts_of};
-    ghost use Rattle.track_index.specs.Needs.{needs_of};
-
-    type Walk = PathWalk<'a>;
-
-    ghost chart = { λ m. chart_in m.view.index.now };
-
-    ghost facts = { λ m. facts_of m.view.index.now };
-
-    ghost cost = { λ m. meets_cost m.view.index.now };
-
-    ghost needs = { λ m. needs_of m.view.index.now };
-
-    ghost path_cost_until = { λ m. path_cost_until m.view.index.now };
-
-    fn facts(self) -> Facts {
-        self.view.facts()
-    }
-
-    fn position<L: Reads>(self, object: u32, instant: i64, steps: &mut Steps<L>) -> Option<Cell> {
-        self.view.position(object, instant, steps)
-    }
-
-    fn walk(self, alloc: Global, object: u32, from: i64, to: i64) -> Result<PathWalk<'a>, Memory> {
-        self.view.walk(alloc, object, from, to)
-    }
-
-    fn slice<L: Reads>(
-        self,
-        alloc: Global,
-        instant: i64,
-        region: &Region,
-        steps: &mut Steps<L>,
-    ) -> Result<Vec<Sighting>, Memory> {
-        self.view.slice(alloc, instant, region, steps)
-    }
-
-    fn interval<L: Reads>(
-        self,
-        alloc: Global,
-        from: i64,
-        to: i64,
-        region: &Region,
-        steps: &mut Steps<L>,
-    ) -> Result<Vec<Hit>, Memory> {
-        self.view.interval(alloc, from, to, region, steps)
-    }
-
-    fn nearest<L: Reads>(
-        self,
-        alloc: Global,
-        count: u32,
-        instant: i64,
-        cell: Cell,
-        steps: &mut Steps<L>,
-    ) -> Result<Vec<Near>, Memory> {
-        self.view.nearest(alloc, count, instant, cell, steps)
     }
 }
 

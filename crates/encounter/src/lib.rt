@@ -6,6 +6,7 @@
 //! side.
 #![tactic(auto)]
 
+mod answering;
 mod block_node;
 mod index_meets;
 mod nearness;

@@ -11,13 +11,13 @@ ghost use Rattle.encounter.specs.Walked.{EndAt};
 use crate::side_by_side::first_of_walks;
 use std::alloc::Global;
 use step_count::{Reads, Steps};
-use track_types::{Answerer, Cell, Facts, Hit, Meeting, Meets, Memory, Near, Region, Sighting};
+use track_types::{Answerer, Meeting, Meets, Memory};
 
 /// Any answerer, made to tell meetings too, by two paths that are drawn side by side. Its chart,
 /// facts, costs and walks are those of the answerer.
 #[derive(Clone, Copy)]
 pub struct Walked<A: Answerer> {
-    answerer: A,
+    pub(crate) answerer: A,
 }
 
 impl<A: Answerer> Walked<A> {
@@ -26,66 +26,6 @@ impl<A: Answerer> Walked<A> {
         ensures { result.answerer ≡ answerer }
     {
         Walked { answerer }
-    }
-}
-
-impl<A: Answerer> Answerer for Walked<A> {
-    ghost use Rattle.encounter.specs.WalkedCost.{walked_cost, walked_needs};
-
-    type Walk = A::Walk;
-
-    ghost chart = { λ w. A.chart w.answerer };
-
-    ghost facts = { λ w. A.facts w.answerer };
-
-    ghost cost = { λ w. walked_cost (A.cost w.answerer) };
-
-    ghost needs = { λ w. walked_needs (A.needs w.answerer) };
-
-    ghost path_cost_until = { λ w. A.path_cost_until w.answerer };
-
-    fn facts(self) -> Facts {
-        self.answerer.facts()
-    }
-
-    fn position<L: Reads>(self, object: u32, instant: i64, steps: &mut Steps<L>) -> Option<Cell> {
-        self.answerer.position(object, instant, steps)
-    }
-
-    fn walk(self, alloc: Global, object: u32, from: i64, to: i64) -> Result<A::Walk, Memory> {
-        self.answerer.walk(alloc, object, from, to)
-    }
-
-    fn slice<L: Reads>(
-        self,
-        alloc: Global,
-        instant: i64,
-        region: &Region,
-        steps: &mut Steps<L>,
-    ) -> Result<Vec<Sighting>, Memory> {
-        self.answerer.slice(alloc, instant, region, steps)
-    }
-
-    fn interval<L: Reads>(
-        self,
-        alloc: Global,
-        from: i64,
-        to: i64,
-        region: &Region,
-        steps: &mut Steps<L>,
-    ) -> Result<Vec<Hit>, Memory> {
-        self.answerer.interval(alloc, from, to, region, steps)
-    }
-
-    fn nearest<L: Reads>(
-        self,
-        alloc: Global,
-        count: u32,
-        instant: i64,
-        cell: Cell,
-        steps: &mut Steps<L>,
-    ) -> Result<Vec<Near>, Memory> {
-        self.answerer.nearest(alloc, count, instant, cell, steps)
     }
 }
 

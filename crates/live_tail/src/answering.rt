@@ -4,7 +4,7 @@ ghost use Rattle.track_types.specs.ByFilter.{cell_at};
 ghost use Rattle.track_types.specs.Near.{IsAsked};
 ghost use Rattle.track_types.specs.declared.question.Question.TheVariants as asked;
 ghost use Rattle.snapshots.specs.Parts.{chart_in};
-ghost use Rattle.track_index.specs.Needs.{needs_of};
+ghost use Rattle.track_index.specs.Cost.{needs_of};
 ghost use Rattle.live_tail.specs.Cost.{cost_with};
 ghost use Rattle.live_tail.specs.Join.{joint_chart, rows_of_tail};
 
@@ -24,8 +24,7 @@ impl<'a> Answerer for TailRef<'a> {
     ghost use Rattle.live_tail.specs.Cost.{cost_with};
     ghost use Rattle.live_tail.specs.Facts.{facts_with};
     ghost use Rattle.live_tail.specs.Join.{joint_chart};
-    ghost use Rattle.track_index.specs.Cost.{path_cost_until};
-    ghost use Rattle.track_index.specs.Needs.{needs_of};
+    ghost use Rattle.track_index.specs.Cost.{needs_of, path_cost_until};
 
     type Walk = TailWalk<'a, PathWalk<'a>>;
 

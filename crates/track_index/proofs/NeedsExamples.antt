@@ -9,7 +9,7 @@ use Rattle.track_types.specs.declared.question.Question.{Question}
 use Rattle.track_types.specs.declared.question.Question.TheVariants.{Position, Path, Slice, Meet}
 use Rattle.track_types.specs.declared.region.Region.TheVariants.{Disc}
 use Rattle.snapshots.specs.Parts.{start_in}
-use Rattle.track_index.specs.Needs.{needs_of}
+use Rattle.track_index.specs.Cost.{needs_of}
 use Rattle.track_index.proofs.Examples.{corner, halves}
 
 -- a period in which two objects begin in one cell, and each has one symbol

@@ -1,5 +1,6 @@
--- How many reads each question costs at most.
-use Rattle.std.specs.Prelude.{ℕ, ℤ}
+-- How many reads each question costs at most, and which reads it needs.
+use Rattle.std.specs.Prelude.{ℕ, ℤ, Bool, false}
+use Rattle.step_count.specs.Reads.{Read}
 use Rattle.track_types.specs.ByFilter.{path_of}
 use Rattle.track_types.specs.StopWalk.{first_past, up_to}
 use Rattle.track_types.specs.declared.parts.Parts.{Parts}
@@ -7,6 +8,7 @@ use Rattle.track_types.specs.declared.question.Question.{Question}
 use Rattle.track_types.specs.declared.question.Question.TheVariants as question
 use Rattle.track_types.specs.declared.stop.Stop.{Stop}
 use Rattle.snapshots.specs.IndexCost.{path_cost, position_cost}
+use Rattle.snapshots.specs.Needs.{needs_at, needs_between, object_needs_at, object_needs_between, pair_needs_between}
 use Rattle.snapshots.specs.Parts.{chart_in}
 use Rattle.slice_search.specs.Cost.{slice_cost}
 use Rattle.interval_search.specs.Cost.{interval_cost}
@@ -22,6 +24,19 @@ cost_of parts (question.Interval from to region) = interval_cost parts from to r
 cost_of parts (question.Nearest count instant cell) = nearest_cost parts count instant cell
 cost_of parts (question.Hold slot object from to) = path_cost parts object from to
 cost_of parts other = 0
+
+-- What a question needs to be read: rules; of periods only that of its instant, or those that its window meets; and of stored
+-- symbols only those of the logs of these periods. Where it asks for one object or two, they are those of the objects' blocks
+-- there. A held path needs what it needs to walk it.
+abbrev pub needs_of : Parts → Question → Read → Bool
+needs_of parts (question.Position object instant) = object_needs_at parts object instant
+needs_of parts (question.Path object from to) = object_needs_between parts object from to
+needs_of parts (question.Slice instant region) = needs_at parts instant
+needs_of parts (question.Interval from to region) = needs_between parts from to
+needs_of parts (question.Nearest count instant cell) = needs_at parts instant
+needs_of parts (question.Meet left right from to reach) = pair_needs_between parts left right from to
+needs_of parts (question.Hold slot object from to) = object_needs_between parts object from to
+needs_of parts other = λ read. false
 
 -- What is read of an object's path in a window until a stop at an instant or after it is drawn: what the path costs up to
 -- the first such stop, or all of it where there is none. So it is what the path costs up to an instant at which the object

@@ -2,7 +2,6 @@
 pub mod Facts
 pub mod Listed
 pub mod Cost
-pub mod Needs
 pub mod CheckFlaws
 pub mod Judged
 pub mod Opening

@@ -16,9 +16,8 @@ use track_types::{Answerer, Cell, Facts, Hit, Memory, Near, Region, Sighting, St
 
 impl<'a> Answerer for IndexRef<'a> {
     ghost use Rattle.snapshots.specs.Parts.{chart_in};
-    ghost use Rattle.track_index.specs.Cost.{cost_of, path_cost_until};
+    ghost use Rattle.track_index.specs.Cost.{cost_of, needs_of, path_cost_until};
     ghost use Rattle.track_index.specs.Facts.{facts_of};
-    ghost use Rattle.track_index.specs.Needs.{needs_of};
     ghost use Rattle.track_index.specs.Path.{path_needs, path_reads_past, path_reads_to};
 
     type Walk = PathWalk<'a>;

@@ -1,6 +1,6 @@
 use Rattle.std.proofs.Common.{◌≡◌, to_z, of_z, w64, arith}
 use Rattle.std.proofs.lemmas.Int.{ints}
-use Rattle.encounter.proofs.index_meets.IndexMeetsAnswerer.walk.Goals as goal
+use Rattle.encounter.proofs.answering.IndexMeetsAnswerer.walk.Goals as goal
 
 pub returns-clause-needs : goal.returns-clause-needs
 returns-clause-needs c =
