@@ -1,15 +1,15 @@
 -- A search at one instant: the symbols before it are passed, and of the two parts of a rule one has it.
-use Rattle.std.proofs.Common.{◌≡◌, ℕ, suc, drop, ◌+◌, ◌<◌, ◌≤◌, ℤ, ◌≤ℤ◌, ◌<ℤ◌, ◌⊎◌, Bool, true, false, List, [], ◌∷◌, ◌++◌, length, filter, map, Option, Some, None, inl, inr, refl, ap, add-one, sym, subst, ◌∙◌, arith}
+use Rattle.std.proofs.Common.{◌≡◌, ℕ, suc, drop, ◌+◌, ◌<◌, ◌≤◌, ℤ, ◌≤ℤ◌, ◌<ℤ◌, ◌⊎◌, ◌==◌, Bool, true, false, IsTrue, List, [], ◌∷◌, ◌++◌, length, Option, Some, None, inl, inr, refl, ap, add-one, sym, subst, ◌∙◌, arith}
 use Rattle.std.specs.Bool.{if◌then◌else◌}
 use Rattle.std.specs.Int.Signed.{le_z}
 use Rattle.std.specs.Option.{is_some}
 use Rattle.std.specs.Prelude.{slice_index}
 use Rattle.std.proofs.Math.ListN.{drop_of_length-le}
 use Rattle.std.proofs.Math.Seq.{drop-cons}
-use Rattle.std.proofs.lemmas.Bool.{cases_Bool}
+use Rattle.std.proofs.lemmas.Bool.{cases_Bool, or_cases}
+use Rattle.std.proofs.lemmas.Bool.Decides.{nat_tests}
 use Rattle.std.proofs.lemmas.Int.{ints}
 use Rattle.std.proofs.lemmas.List.{append-nil, length-append}
-use Rattle.std.proofs.lemmas.List.Elements.{filter-append}
 use Rattle.track_types.specs.Region.{in_region, is_between}
 use Rattle.track_types.specs.declared.region.Region.{Region}
 use Rattle.track_types.specs.declared.stop.Stop.{Stop}
@@ -20,20 +20,21 @@ use Rattle.rule_store.specs.Entry.{entry_of}
 use Rattle.rule_store.specs.Expansion.{values_of}
 use Rattle.rule_store.specs.Flaws.{left_of, right_of}
 use Rattle.rule_store.specs.Log.{in_window, log_values, stop_at}
-use Rattle.rule_store.specs.Nodes.{RuleNode, after, nodes_in, parsed}
 use Rattle.rule_store.specs.declared.entry.Entry.{Entry}
-use Rattle.log_cursor.specs.Descent.{IsParted, IsPassing, IsWithin, end_stage, hit_from}
+use Rattle.log_cursor.specs.Descent.{IsParted, IsPassing, IsWithin, end_stage, hit_from, rules_from}
+use Rattle.log_cursor.specs.Needs.{RulesWithin}
 use Rattle.log_cursor.specs.Start.{IsHullAsked, IsStart, IsWayOf, start_after, start_past}
-use Rattle.log_cursor.specs.Touching.{first_among, first_hit_of, hit_left, touches_at, touching_count, touching_left}
-use Rattle.log_cursor.specs.Turn.{is_opening, opening_count}
+use Rattle.log_cursor.specs.Touching.{first_among, first_hit_of, hit_left, touches_at, touching_count, touching_left, touching_rule}
+use Rattle.log_cursor.specs.Turn.{opening_count, opening_rule}
 use Rattle.log_cursor.specs.Walk.{stops_left}
+use Rattle.log_cursor.specs.declared.descent.Stage.TheVariants.{Within, Touching}
 use Rattle.log_cursor.specs.declared.start.Start.{Start}
 use Rattle.log_cursor.proofs.HitLemmas.{IsHullAsked-along, held-terminal, outside-along, own_stops-outside, touches_at-some}
 use Rattle.log_cursor.proofs.RuleLemmas.{values_of-parts}
 use Rattle.log_cursor.proofs.SearchLemmas.{first_hit_of-later}
 use Rattle.log_cursor.proofs.StackLemmas.{own_entry, own_symbol}
 use Rattle.log_cursor.proofs.StopLemmas.{is_between-before}
-use Rattle.log_cursor.proofs.TouchLemmas.{opening_count-later, opening_count-parts}
+use Rattle.log_cursor.proofs.TouchLemmas.{opening_count-first, opening_count-later, opening_count-parts, opening_rule-first, opening_rule-later, opening_rule-own, opening_rule-parts}
 use Rattle.log_cursor.proofs.WalkLemmas.{own_stops, own_stops-before, own_stops-terminal, stops_left-cons, stops_left-end, stops_left-over, stops_left-parts, window-none}
 use Rattle.log_cursor.proofs.WayLemmas.{IsWay-front, IsWayOf-first, IsWayOf-parts, IsWayOf-rest, hull_is, next-way, start_after-is}
 
@@ -43,6 +44,9 @@ module _ (rules : RulesView) (instant : ℤ) (region : Region) where
 
   abbrev count : Start → List ℕ → ℕ
   count start symbols = touching_left rules instant instant region start symbols
+
+  abbrev opens : Start → List ℕ → ℕ → Bool
+  opens start symbols = touching_rule rules start symbols instant instant region
 
   -- no symbols have no hit
   pub hit-end : (start : Start) → hit start [] ≡ None
@@ -103,16 +107,17 @@ module _ (rules : RulesView) (instant : ℤ) (region : Region) where
 
     -- neither does it alone
     pub count-first : (log : List ℕ) → count start (symbol ∷ []) ≤ count start (symbol ∷ log)
-    unfolding touching_count nodes_in
-    count-first log =
-        let test : RuleNode → Bool = is_opening rules (touches_at region) instant instant start in
-        let tree = parsed rules symbol in
-        let later = map (after tree.terminals) (nodes_in rules log) in
-        let all = ap length (filter-append test tree.nodes later) in
-        let sum = length-append (filter test tree.nodes) (filter test later) in
-        let alone = ap length (filter-append test tree.nodes []) in
-        let least = length-append (filter test tree.nodes) (filter test []) in
-        omega (arith, all, sum, alone, least)
+    unfolding touching_count opening_count
+    count-first log = opening_count-first rules instant instant (touches_at region) start symbol log
+
+    -- nor do they open others
+    pub opens-later : (log : List ℕ) → RulesWithin (opens past log) (opens start (symbol ∷ log))
+    unfolding touching_rule opening_rule
+    opens-later log = opening_rule-later rules instant instant (touches_at region) start symbol log
+
+    pub opens-first : (log : List ℕ) → RulesWithin (opens start (symbol ∷ [])) (opens start (symbol ∷ log))
+    unfolding touching_rule opening_rule
+    opens-first log = opening_rule-first rules instant instant (touches_at region) start symbol log
 
   -- a rule that was opened
   module _ (start : Start) (symbol : ℕ) (rule : length rules.alphabet ≤ symbol) (known : symbol < symbols_in rules)
@@ -130,6 +135,20 @@ module _ (rules : RulesView) (instant : ℤ) (region : Region) where
     count-parts touches late early =
         opening_count-parts rules instant instant (touches_at region) symbol [] rule known left_below right_below start
         (omega (arith, ints)) late early touches
+
+    -- it is one of those that are opened, and so are those of its parts
+    pub opens-own : touches_at region start.cell (bounding_box_of (values_of rules symbol)) ≡ true →
+        start.instant <ℤ instant → instant ≤ℤ (start_past start (values_of rules symbol)).instant →
+        IsTrue (opens start (symbol ∷ []) symbol)
+    unfolding touching_rule opening_rule
+    opens-own touches late early =
+        opening_rule-own rules instant instant (touches_at region) symbol [] rule known left_below right_below start
+        (omega (arith, ints)) late early touches
+
+    pub opens-parts : RulesWithin (opens start (left_of rules symbol ∷ right_of rules symbol ∷ []))
+        (opens start (symbol ∷ []))
+    unfolding touching_rule opening_rule
+    opens-parts = opening_rule-parts rules instant instant (touches_at region) symbol [] rule known left_below right_below start
 
 -- the parts of a rule that has an instant
 pub parted : (rules : RulesView) (at : Start) (instant : ℤ) (symbol : ℕ) → length rules.alphabet ≤ symbol →
@@ -227,6 +246,13 @@ module _ (rules : RulesView) (at : Start) (instant : ℤ) (left right : ℕ) (is
           | inr late ↦ rw (late.1.0, late.1.1) count-right
         ]
 
+        pub picked-opens : RulesWithin (touching_rule rules next (symbol ∷ []) instant instant region)
+            (touching_rule rules at (left ∷ right ∷ []) instant instant region)
+        picked-opens = elim picked [
+          | inl early ↦ rw (early.1.0, early.1.1) (opens-first rules instant region at left (right ∷ []))
+          | inr late ↦ rw (late.1.0, late.1.1, past_is) (opens-later rules instant region at left (right ∷ []))
+        ]
+
 -- the only stop of an anchor is its own
 own_stop : (region : Region) (from to : ℤ) (stop found : Stop) →
     Some found ≡ first_among region (in_window from to (stop ∷ [])) → found ≡ stop
@@ -279,6 +305,10 @@ module _ {rules : RulesView} {log : List ℕ} {start : Start} {instant : ℤ} {r
       ≤ touching_count rules start log instant instant region
   few = rw split at passed.passing.fewer
 
+  same_rules : RulesWithin (touching_rule rules at (entry.symbol ∷ drop (i + 1) log) instant instant region)
+      (touching_rule rules start log instant instant region)
+  same_rules = rw split at passed.passing.opens
+
   pub passing-start : IsStart (start_after at entry)
   passing-start = (next-way rules at entry (drop (i + 1) log) entry_is way).start_is
 
@@ -306,6 +336,10 @@ module _ {rules : RulesView} {log : List ℕ} {start : Start} {instant : ℤ} {r
           let alone = count-first rules instant region at entry.symbol (drop (i + 1) log) in
           omega (arith, alone, few, passed.read, passed.passing.cost, passed.inside)
 
+      pub passing-opens : RulesWithin (touching_rule rules at (entry.symbol ∷ []) instant instant region)
+          (touching_rule rules start log instant instant region)
+      passing-opens = λ rule is. same_rules rule (opens-first rules instant region at entry.symbol (drop (i + 1) log) rule is)
+
     -- and else comes after it
     pub passing-next : next.instant <ℤ instant → IsPassing rules log start instant region before (i + 1) next after
     passing-next ended =
@@ -317,6 +351,8 @@ module _ {rules : RulesView} {log : List ℕ} {start : Start} {instant : ℤ} {r
               ∙ rest;
           cost = omega (arith, passed.read, passed.passing.cost);
           fewer = rw leads_to (omega (arith, later, few));
+          opens = rw leads_to
+              (λ rule is. same_rules rule (opens-later rules instant region at entry.symbol (drop (i + 1) log) rule is));
         }
 
 -- a search ends after the log
@@ -366,6 +402,19 @@ module _ (rules : RulesView) (at : Start) (instant : ℤ) (symbol : ℕ) (within
         count-parts rules instant region at symbol rule within.known left_below right_below (rw within-hull at touches)
         within.has.after within.has.within
 
+    -- a rule that touches it may be opened, and so may those of its parts
+    pub within-opens : length rules.alphabet ≤ symbol → left_of rules symbol < symbol → right_of rules symbol < symbol →
+        touches_at region at.cell entry.hull ≡ true →
+        RulesWithin (rules_from rules instant region at (Touching symbol)) (rules_from rules instant region at (Within symbol))
+    within-opens rule left_below right_below touches other is = elim (or_cases (symbol == other) _ is) [
+      | inl own ↦
+          let same : symbol ≡ other = grind (arith, nat_tests, own) in
+          subst (λ s. IsTrue (touching_rule rules at (symbol ∷ []) instant instant region s)) same
+          (opens-own rules instant region at symbol rule within.known left_below right_below (rw within-hull at touches)
+          within.has.after within.has.within)
+      | inr part ↦ opens-parts rules instant region at symbol rule within.known left_below right_below other part
+    ]
+
 -- a search begins after the anchor, where this is no hit
 pub passing-first : (rules : RulesView) (log : List ℕ) (start : Start) (instant : ℤ) (region : Region) (before : ℕ) →
     IsWayOf rules start log → start.instant <ℤ instant → IsPassing rules log start instant region before 0 start before
@@ -379,4 +428,5 @@ passing-first rules log start instant region before way late =
       same = first_hit_of-later rules log start instant instant region None none refl;
       cost = omega arith;
       fewer = omega arith;
+      opens = λ rule is. is;
     }

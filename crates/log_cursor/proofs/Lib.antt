@@ -6,6 +6,8 @@ mod OpenedLemmas
 mod StackLemmas
 mod WalkLemmas
 pub mod TouchLemmas
+pub mod NeedsLemmas
+pub mod StageLemmas
 pub mod HitLemmas
 pub mod ExtentLemmas
 mod TurnLemmas

@@ -1,10 +1,15 @@
--- How many rules a walk opens: symbol by symbol, and of a rule by its parts.
-use Rattle.std.proofs.Common.{◌≡◌, ℕ, suc, ◌+◌, ◌<◌, ◌≤◌, ℤ, pos, ◌+ℤ◌, ◌≤ℤ◌, ◌<ℤ◌, Bool, true, List, [], ◌∷◌, ◌++◌, length, map, Option, refl, ap, ◌∙◌, arith}
+-- Which rules a walk opens, and how many: symbol by symbol, and of a rule by its parts.
+use Rattle.std.proofs.Common.{◌≡◌, ℕ, suc, ◌+◌, ◌<◌, ◌≤◌, ℤ, pos, ◌+ℤ◌, ◌≤ℤ◌, ◌<ℤ◌, Bool, true, ◌||◌, IsTrue, List, [], ◌∷◌, ◌++◌, length, map, Option, refl, ap, sym, ◌∙◌, arith, inl, inr}
 use Rattle.std.specs.Prelude.{filter, slice_index}
 use Rattle.std.specs.Int.Signed.{le_z}
+use Rattle.std.specs.List.{list_any}
+use Rattle.std.proofs.Math.Bool.{or-false}
+use Rattle.std.proofs.lemmas.Bool.{cases_Bool, or_left, or_right}
 use Rattle.std.proofs.lemmas.Int.{ints}
 use Rattle.std.proofs.lemmas.List.{length-append, length-map, map-append}
 use Rattle.std.proofs.lemmas.List.Elements.{filter-append, filter_agree}
+use Rattle.std.proofs.lemmas.List.Folds.{list_any-append}
+use Rattle.std.proofs.lemmas.Slice.Eq.{bytes_eq-Decides}
 use Rattle.list_laws.proofs.MapLemmas.{filter-map}
 use Rattle.track_types.specs.declared.cell.Cell.{Cell}
 use Rattle.track_types.specs.declared.cell_box.CellBox.{CellBox}
@@ -19,8 +24,9 @@ use Rattle.rule_store.specs.Nodes.{RuleNode, after, nodes_in, opened_count, pars
 use Rattle.rule_store.proofs.CellLemmas.{displacement_of-columns, displacement_of-lines, moved-none, same_cell}
 use Rattle.rule_store.proofs.NodeLemmas.{parsed-terminals}
 use Rattle.log_cursor.specs.Start.{start_past}
-use Rattle.log_cursor.specs.Touching.{terminal_values, touches_at, touching_count, touching_left}
-use Rattle.log_cursor.specs.Turn.{has_hull, is_opening, opening_count}
+use Rattle.log_cursor.specs.Needs.{RulesWithin}
+use Rattle.log_cursor.specs.Touching.{is_rule_of, terminal_values, touches_at, touching_count, touching_left, touching_rule}
+use Rattle.log_cursor.specs.Turn.{has_hull, is_opening, opening_count, opening_nodes, opening_rule}
 use Rattle.log_cursor.specs.Walk.{opened_left}
 use Rattle.log_cursor.specs.declared.start.Start.{Start}
 use Rattle.log_cursor.proofs.RuleLemmas.{nodes_in-parts}
@@ -53,50 +59,141 @@ module _ (rules : RulesView) (from to : ℤ) (may : Cell → Option CellBox → 
       ∙ moved-displaced start.cell (terminal_values rules terminals) (terminal_values rules node.before) in
       rw (first, last, placed) refl
 
-  filter-after : (start : Start) (terminals : List ℕ) (nodes : List RuleNode) →
-      length (filter (is_opening rules may from to start) (map (after terminals) nodes))
-      ≡ length (filter (is_opening rules may from to (start_past start (terminal_values rules terminals))) nodes)
-  filter-after start terminals nodes =
-      let past = start_past start (terminal_values rules terminals) in
-      ap length (filter-map (is_opening rules may from to start) (after terminals) nodes)
-      ∙ length-map (filter (λ node. is_opening rules may from to start (after terminals node)) nodes) (after terminals)
-      ∙ ap length (filter_agree _ (is_opening rules may from to past) (is_opening-after start terminals) nodes)
+  -- the nodes that are opened of symbols are the first one's, and those of the others from where it leads
+  opening_nodes-cons : (start : Start) (symbol : ℕ) (log : List ℕ) →
+      opening_nodes rules may from to start (symbol ∷ log)
+      ≡ filter (is_opening rules may from to start) (parsed rules symbol).nodes
+      ++ map (after (parsed rules symbol).terminals)
+      (opening_nodes rules may from to (start_past start (values_of rules symbol)) log)
+  unfolding nodes_in values_of
+  opening_nodes-cons start symbol log =
+      let test : RuleNode → Bool = is_opening rules may from to start in
+      let tree = parsed rules symbol in
+      let later = nodes_in rules log in
+      let past : List ℕ → RuleNode → Bool =
+      λ terminals. is_opening rules may from to (start_past start (terminal_values rules terminals)) in
+      filter-append test tree.nodes (map (after tree.terminals) later)
+      ∙ ap (λ nodes. filter test tree.nodes ++ nodes) (
+      filter-map test (after tree.terminals) later
+      ∙ ap (map (after tree.terminals)) (
+      filter_agree _ (past tree.terminals) (is_opening-after start tree.terminals) later
+      ∙ ap (λ terminals. filter (past terminals) later) (parsed-terminals rules symbol)
+      )
+      )
 
   -- the symbols after the first count no more than all
   pub opening_count-later : (start : Start) (symbol : ℕ) (log : List ℕ) →
       opening_count rules may from to (start_past start (values_of rules symbol)) log
       ≤ opening_count rules may from to start (symbol ∷ log)
-  unfolding opening_count nodes_in values_of
+  unfolding opening_count
   opening_count-later start symbol log =
-      let test : RuleNode → Bool = is_opening rules may from to start in
       let tree = parsed rules symbol in
-      let later = map (after tree.terminals) (nodes_in rules log) in
-      let both = ap length (filter-append test tree.nodes later) in
-      let sum = length-append (filter test tree.nodes) (filter test later) in
-      let rest = filter-after start tree.terminals (nodes_in rules log) in
-      let same = ap (λ terminals. length (filter (is_opening rules may from to (start_past start
-      (terminal_values rules terminals))) (nodes_in rules log))) (parsed-terminals rules symbol) in
-      omega (arith, both, sum, rest, same)
+      let first = filter (is_opening rules may from to start) tree.nodes in
+      let rest = opening_nodes rules may from to (start_past start (values_of rules symbol)) log in
+      let both = ap length (opening_nodes-cons start symbol log) in
+      let sum = length-append first (map (after tree.terminals) rest) in
+      let same = length-map rest (after tree.terminals) in
+      omega (arith, both, sum, same)
 
-  -- a rule that is opened counts one, and its two parts
-  pub opening_count-parts : (symbol : ℕ) (log : List ℕ) → length rules.alphabet ≤ symbol → symbol < symbols_in rules →
-      left_of rules symbol < symbol → right_of rules symbol < symbol → (start : Start) → from ≤ℤ to →
-      start.instant <ℤ to → from ≤ℤ (start_past start (values_of rules symbol)).instant →
-      may start.cell (bounding_box_of (values_of rules symbol)) ≡ true →
-      opening_count rules may from to start (symbol ∷ log)
-      ≡ suc (opening_count rules may from to start (left_of rules symbol ∷ right_of rules symbol ∷ log))
-  unfolding opening_count values_of displacement_of
-  opening_count-parts symbol log rule known left_below right_below start window open_end reached passes =
-      let inside = expansion_of rules symbol in
-      let long = length-map inside (slice_index rules.alphabet) in
-      let first : le_z (start.instant +ℤ pos (0 + 1)) to ≡ true = le_z-from _ to (omega (arith, ints)) in
-      let last : le_z from (start.instant +ℤ pos (0 + length inside)) ≡ true =
-      le_z-from from _ (omega (arith, ints, reached, long)) in
-      let own : is_opening rules may from to start (record { before = []; inside = inside }) ≡ true =
-      rw (le_z-from from to window, first, last, moved-none start.cell) passes in
-      ap (λ nodes. length (filter (is_opening rules may from to start) nodes))
-      (nodes_in-parts rules symbol rule known left_below right_below log)
-      ∙ rw own refl
+  -- neither does the first
+  pub opening_count-first : (start : Start) (symbol : ℕ) (log : List ℕ) →
+      opening_count rules may from to start (symbol ∷ []) ≤ opening_count rules may from to start (symbol ∷ log)
+  unfolding opening_count nodes_in
+  opening_count-first start symbol log =
+      let tree = parsed rules symbol in
+      let first = filter (is_opening rules may from to start) tree.nodes in
+      let rest = opening_nodes rules may from to (start_past start (values_of rules symbol)) log in
+      let all = ap length (opening_nodes-cons start symbol log) in
+      let sum = length-append first (map (after tree.terminals) rest) in
+      let alone = ap length (opening_nodes-cons start symbol []) in
+      let least = length-append first [] in
+      omega (arith, all, sum, alone, least)
+
+  -- a node stands for the same after some terminals
+  any-after : (rule : ℕ) (terminals : List ℕ) (nodes : List RuleNode) →
+      list_any (is_rule_of rules rule) (map (after terminals) nodes) ≡ list_any (is_rule_of rules rule) nodes
+  any-after rule terminals [] = refl
+  any-after rule terminals (node ∷ nodes) =
+      ap (λ rest. is_rule_of rules rule node || rest) (any-after rule terminals nodes)
+
+  opening_rule-cons : (start : Start) (symbol : ℕ) (log : List ℕ) (rule : ℕ) →
+      opening_rule rules may from to start (symbol ∷ log) rule
+      ≡ (list_any (is_rule_of rules rule) (filter (is_opening rules may from to start) (parsed rules symbol).nodes)
+      || opening_rule rules may from to (start_past start (values_of rules symbol)) log rule)
+  unfolding opening_rule
+  opening_rule-cons start symbol log rule =
+      let tree = parsed rules symbol in
+      let first = filter (is_opening rules may from to start) tree.nodes in
+      let rest = opening_nodes rules may from to (start_past start (values_of rules symbol)) log in
+      ap (list_any (is_rule_of rules rule)) (opening_nodes-cons start symbol log)
+      ∙ list_any-append (is_rule_of rules rule) first (map (after tree.terminals) rest)
+      ∙ ap (λ other. list_any (is_rule_of rules rule) first || other) (any-after rule tree.terminals rest)
+
+  -- what is opened of the symbols after the first is opened of all
+  pub opening_rule-later : (start : Start) (symbol : ℕ) (log : List ℕ) →
+      RulesWithin (opening_rule rules may from to (start_past start (values_of rules symbol)) log)
+      (opening_rule rules may from to start (symbol ∷ log))
+  opening_rule-later start symbol log rule opens = opening_rule-cons start symbol log rule ∙ or_right _ _ opens
+
+  -- so is what is opened of the first
+  pub opening_rule-first : (start : Start) (symbol : ℕ) (log : List ℕ) →
+      RulesWithin (opening_rule rules may from to start (symbol ∷ [])) (opening_rule rules may from to start (symbol ∷ log))
+  unfolding opening_rule nodes_in
+  opening_rule-first start symbol log rule opens =
+      let own = list_any (is_rule_of rules rule) (filter (is_opening rules may from to start) (parsed rules symbol).nodes) in
+      let alone : own ≡ true = sym (opening_rule-cons start symbol [] rule ∙ or-false own) ∙ opens in
+      opening_rule-cons start symbol log rule ∙ or_left own _ alone
+
+  -- a rule
+  module _ (symbol : ℕ) (log : List ℕ) (rule : length rules.alphabet ≤ symbol) (known : symbol < symbols_in rules)
+      (left_below : left_of rules symbol < symbol) (right_below : right_of rules symbol < symbol) (start : Start) where
+    abbrev own : RuleNode
+    own = record { before = []; inside = expansion_of rules symbol }
+
+    -- has the nodes of its two parts
+    pub opening_rule-parts :
+        RulesWithin (opening_rule rules may from to start (left_of rules symbol ∷ right_of rules symbol ∷ log))
+        (opening_rule rules may from to start (symbol ∷ log))
+    unfolding opening_rule
+    opening_rule-parts other opens =
+        let test : RuleNode → Bool = is_opening rules may from to start in
+        ap (λ nodes. list_any (is_rule_of rules other) (filter test nodes))
+        (nodes_in-parts rules symbol rule known left_below right_below log)
+        ∙ elim (cases_Bool (test own)) [
+          | inl opened ↦ rw opened (or_right (is_rule_of rules other own) _ opens)
+          | inr shut ↦ rw shut opens
+        ]
+
+    module _ (window : from ≤ℤ to) (open_end : start.instant <ℤ to)
+        (reached : from ≤ℤ (start_past start (values_of rules symbol)).instant)
+        (passes : may start.cell (bounding_box_of (values_of rules symbol)) ≡ true) where
+      is_opening-own : is_opening rules may from to start own ≡ true
+      unfolding values_of displacement_of
+      is_opening-own =
+          let inside = expansion_of rules symbol in
+          let long = length-map inside (slice_index rules.alphabet) in
+          let first : le_z (start.instant +ℤ pos (0 + 1)) to ≡ true = le_z-from _ to (omega (arith, ints)) in
+          let last : le_z from (start.instant +ℤ pos (0 + length inside)) ≡ true =
+          le_z-from from _ (omega (arith, ints, reached, long)) in
+          rw (le_z-from from to window, first, last, moved-none start.cell) passes
+
+      -- where it is opened it counts one, and its two parts
+      pub opening_count-parts :
+          opening_count rules may from to start (symbol ∷ log)
+          ≡ suc (opening_count rules may from to start (left_of rules symbol ∷ right_of rules symbol ∷ log))
+      unfolding opening_count
+      opening_count-parts =
+          ap (λ nodes. length (filter (is_opening rules may from to start) nodes))
+          (nodes_in-parts rules symbol rule known left_below right_below log)
+          ∙ rw is_opening-own refl
+
+      -- and is one of the rules that are opened
+      pub opening_rule-own : IsTrue (opening_rule rules may from to start (symbol ∷ log) symbol)
+      unfolding opening_rule
+      opening_rule-own =
+          ap (λ nodes. list_any (is_rule_of rules symbol) (filter (is_opening rules may from to start) nodes))
+          (nodes_in-parts rules symbol rule known left_below right_below log)
+          ∙ rw (is_opening-own, (bytes_eq-Decides (expansion_of rules symbol) (expansion_of rules symbol)).1 refl) refl
 
 -- what a walk opens, and what a search does, by their tests
 pub opened_left-count : (rules : RulesView) (from to : ℤ) (start : Start) (symbols : List ℕ) →
@@ -108,3 +205,14 @@ pub touching_left-count : (rules : RulesView) (from to : ℤ) (region : Region) 
     touching_left rules from to region start symbols ≡ opening_count rules (touches_at region) from to start symbols
 unfolding touching_count opening_count
 touching_left-count rules from to region start symbols = refl
+
+module _ (rules : RulesView) (from to : ℤ) (region : Region) (start : Start) (symbols : List ℕ) where
+  pub touching_rule-from : RulesWithin (opening_rule rules (touches_at region) from to start symbols)
+      (touching_rule rules start symbols from to region)
+  unfolding touching_rule opening_rule
+  touching_rule-from rule opens = opens
+
+  pub touching_rule-to : RulesWithin (touching_rule rules start symbols from to region)
+      (opening_rule rules (touches_at region) from to start symbols)
+  unfolding touching_rule opening_rule
+  touching_rule-to rule touches = touches

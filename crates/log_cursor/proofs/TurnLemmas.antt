@@ -1,6 +1,6 @@
 -- One turn of a walk: the next symbol is taken off with its entry, and is passed over, is opened, or has the stop that is
 -- wanted. What is proved here once serves the drawing of stops and the search of a region.
-use Rattle.std.proofs.Common.{◌≡◌, ℕ, suc, ◌+◌, ◌<◌, ◌≤◌, ℤ, pos, ◌+ℤ◌, ◌≤ℤ◌, ◌<ℤ◌, Bool, true, List, [], ◌∷◌, ◌++◌, length, Option, None, refl, ap, append_assoc, sym, subst, ◌∙◌, arith}
+use Rattle.std.proofs.Common.{◌≡◌, ℕ, suc, ◌+◌, ◌<◌, ◌≤◌, ℤ, pos, ◌+ℤ◌, ◌≤ℤ◌, ◌<ℤ◌, Bool, true, IsTrue, List, [], ◌∷◌, ◌++◌, length, Option, None, refl, ap, append_assoc, sym, subst, ◌∙◌, arith}
 use Rattle.std.specs.Option.{is_some}
 use Rattle.std.specs.Prelude.{find}
 use Rattle.std.proofs.lemmas.Int.{ints}
@@ -19,15 +19,16 @@ use Rattle.rule_store.specs.Flaws.{AreRules, left_of, right_of}
 use Rattle.rule_store.specs.Log.{log_values, stop_at}
 use Rattle.rule_store.proofs.ExpansionLemmas.{values_of-terminal}
 use Rattle.rule_store.specs.declared.entry.Entry.{Entry}
+use Rattle.log_cursor.specs.Needs.{RulesWithin}
 use Rattle.log_cursor.specs.Pending.{IsTaken, PendingView}
 use Rattle.log_cursor.specs.Start.{IsHullAsked, IsWayOf, start_after, start_past}
 use Rattle.log_cursor.specs.Touching.{touches_at}
-use Rattle.log_cursor.specs.Turn.{IsWalking, has_hull, is_any, opening_count, turns_left}
+use Rattle.log_cursor.specs.Turn.{IsWalking, has_hull, is_any, opening_count, opening_rule, turns_left}
 use Rattle.log_cursor.specs.Walk.{opened_left, stops_left}
 use Rattle.log_cursor.specs.declared.start.Start.{Start}
 use Rattle.log_cursor.proofs.HitLemmas.{IsHullAsked-along, held-terminal}
 use Rattle.log_cursor.proofs.RuleLemmas.{parts-below}
-use Rattle.log_cursor.proofs.TouchLemmas.{opened_left-count, opening_count-later, opening_count-parts}
+use Rattle.log_cursor.proofs.TouchLemmas.{opened_left-count, opening_count-later, opening_count-parts, opening_rule-later, opening_rule-own, opening_rule-parts}
 use Rattle.log_cursor.proofs.WalkLemmas.{own_stops, own_stops-absent, own_stops-before, own_stops-terminal, stops_left-cons, stops_left-end, stops_left-over, stops_left-parts}
 use Rattle.log_cursor.proofs.WayLemmas.{IsWay-front, IsWayOf-parts, hull_is, next-way, start_after-is}
 
@@ -140,6 +141,11 @@ module _ {wanted : Stop → Bool} {may : Cell → Option CellBox → Bool} {rule
   fewer : opening_count rules may from to next now.symbols ≤ opening_count rules may from to at old.symbols
   fewer = rw (past_is, turn.taken.symbols) (opening_count-later rules from to may at entry.symbol now.symbols)
 
+  -- what is opened of the others was to be opened before
+  pub turn-rules-left : RulesWithin (opening_rule rules may from to next now.symbols)
+      (opening_rule rules may from to at old.symbols)
+  turn-rules-left = rw (past_is, turn.taken.symbols) (opening_rule-later rules from to may at entry.symbol now.symbols)
+
   pub turn-reads : reads + (now.unread + opening_count rules may from to next now.symbols) ≤ budget
   turn-reads = omega (arith, walking.reads, turn.cost, fewer)
 
@@ -184,17 +190,9 @@ module _ {wanted : Stop → Bool} {may : Cell → Option CellBox → Bool} {rule
     turn-held region terminal touches =
         rw past_is (held-terminal region rules at entry.symbol (rw turn-rules at terminal) (rw turn-hull at touches))
 
-    -- a rule whose box passes was opened
+    -- a rule whose box passes
     module _ (passes : may at.cell entry.hull ≡ true) (sound : AreRules now.rules)
-        (rule : length now.rules.alphabet ≤ entry.symbol) (later : PendingView) (after : ℕ) (same : later.rules ≡ now.rules)
-        (symbols : later.symbols ≡ left_of now.rules entry.symbol ∷ right_of now.rules entry.symbol ∷ now.symbols)
-        (unread : later.unread ≡ now.unread) (read : after ≡ reads + parts_reads) where
-      abbrev parts : List ℕ
-      parts = left_of rules entry.symbol ∷ right_of rules entry.symbol ∷ now.symbols
-
-      parts_are : later.symbols ≡ parts
-      parts_are = rw turn-rules at symbols
-
+        (rule : length now.rules.alphabet ≤ entry.symbol) where
       is_rule : length rules.alphabet ≤ entry.symbol
       is_rule = rw turn-rules at rule
 
@@ -204,25 +202,49 @@ module _ {wanted : Stop → Bool} {may : Cell → Option CellBox → Bool} {rule
       below : (left_of rules entry.symbol < entry.symbol) × (right_of rules entry.symbol < entry.symbol)
       below = parts-below rules entry.symbol (rw turn-rules at sound) is_rule known
 
-      one_less : opening_count rules may from to at old.symbols ≡ suc (opening_count rules may from to at later.symbols)
-      one_less =
-          rw (turn.taken.symbols, parts_are) (opening_count-parts rules from to may entry.symbol now.symbols is_rule known below.0 below.1 at
+      -- is one that was to be opened
+      pub turn-own : IsTrue (opening_rule rules may from to at old.symbols entry.symbol)
+      turn-own =
+          rw turn.taken.symbols (opening_rule-own rules from to may entry.symbol now.symbols is_rule known below.0 below.1 at
           walking.window open_end (rw past_is at reached) (rw turn-hull at passes))
 
-      pub turn-opened : IsWalking wanted may rules stops budget from to later at after
-      turn-opened = record {
-        passed = walking.passed;
-        same = same ∙ turn-rules;
-        window = walking.window;
-        way = rw parts_are (IsWayOf-parts rules entry.symbol now.symbols is_rule known below.0 below.1 at
-            (taken-way walking turn.taken));
-        all = rw parts_are (walking.all
-            ∙ ap (λ s. walking.passed ++ stops_left rules from to at s) turn.taken.symbols
-            ∙ ap (λ s. walking.passed ++ s) (stops_left-parts rules from to at entry.symbol now.symbols is_rule known below.0 below.1));
-        unwanted = walking.unwanted;
-        reads = omega (arith, walking.reads, turn.cost, one_less, unread, read);
-      }
+      -- and was opened
+      module _ (later : PendingView) (after : ℕ) (same : later.rules ≡ now.rules)
+          (symbols : later.symbols ≡ left_of now.rules entry.symbol ∷ right_of now.rules entry.symbol ∷ now.symbols)
+          (unread : later.unread ≡ now.unread) (read : after ≡ reads + parts_reads) where
+        abbrev parts : List ℕ
+        parts = left_of rules entry.symbol ∷ right_of rules entry.symbol ∷ now.symbols
 
-      pub turn-opened-fewer : turns_left rules may from to at later.symbols < turns_left rules may from to at old.symbols
-      turn-opened-fewer =
-          let long = ap length turn.taken.symbols in let two = ap length parts_are in omega (arith, long, two, one_less)
+        parts_are : later.symbols ≡ parts
+        parts_are = rw turn-rules at symbols
+
+        one_less : opening_count rules may from to at old.symbols ≡ suc (opening_count rules may from to at later.symbols)
+        one_less =
+            rw (turn.taken.symbols, parts_are) (opening_count-parts rules from to may entry.symbol now.symbols is_rule known
+            below.0 below.1 at walking.window open_end (rw past_is at reached) (rw turn-hull at passes))
+
+        pub turn-opened : IsWalking wanted may rules stops budget from to later at after
+        turn-opened = record {
+          passed = walking.passed;
+          same = same ∙ turn-rules;
+          window = walking.window;
+          way = rw parts_are (IsWayOf-parts rules entry.symbol now.symbols is_rule known below.0 below.1 at
+              (taken-way walking turn.taken));
+          all = rw parts_are (walking.all
+              ∙ ap (λ s. walking.passed ++ stops_left rules from to at s) turn.taken.symbols
+              ∙ ap (λ s. walking.passed ++ s) (stops_left-parts rules from to at entry.symbol now.symbols is_rule known
+              below.0 below.1));
+          unwanted = walking.unwanted;
+          reads = omega (arith, walking.reads, turn.cost, one_less, unread, read);
+        }
+
+        pub turn-opened-fewer : turns_left rules may from to at later.symbols < turns_left rules may from to at old.symbols
+        turn-opened-fewer =
+            let long = ap length turn.taken.symbols in let two = ap length parts_are in omega (arith, long, two, one_less)
+
+        -- what is opened of its parts was to be opened before
+        pub turn-opened-rules : RulesWithin (opening_rule rules may from to at later.symbols)
+            (opening_rule rules may from to at old.symbols)
+        turn-opened-rules =
+            rw (turn.taken.symbols, parts_are) (opening_rule-parts rules from to may entry.symbol now.symbols is_rule known
+            below.0 below.1 at)

@@ -1,5 +1,6 @@
 -- A search for the stop of a block at one instant, and what is left of it.
-use Rattle.std.specs.Prelude.{◌≡◌, ℕ, ◌+◌, ◌*◌, ◌<◌, ◌≤◌, max, ℤ, pos, ◌+ℤ◌, ◌<ℤ◌, ◌≤ℤ◌, Bool, true, false, List, [], ◌∷◌, drop, length, slice_get, if◌then◌else◌, Option, Some, None, ⊤}
+use Rattle.std.specs.Prelude.{◌≡◌, ℕ, ◌+◌, ◌*◌, ◌<◌, ◌≤◌, max, ℤ, pos, ◌+ℤ◌, ◌<ℤ◌, ◌≤ℤ◌, Bool, true, false, ◌==◌, ◌||◌, List, [], ◌∷◌, drop, length, slice_get}
+use Rattle.std.specs.Prelude.{if◌then◌else◌, Option, Some, None, ⊤}
 use Rattle.std.specs.Int.Signed.{le_z}
 use Rattle.track_types.specs.declared.region.Region.{Region}
 use Rattle.track_types.specs.declared.stop.Stop.{Stop}
@@ -7,8 +8,9 @@ use Rattle.rule_store.specs.View.{RulesView, symbols_in}
 use Rattle.rule_store.specs.Expansion.{values_of}
 use Rattle.rule_store.specs.Flaws.{left_of, right_of}
 use Rattle.rule_store.specs.Log.{stop_at}
+use Rattle.log_cursor.specs.Needs.{RulesWithin}
 use Rattle.log_cursor.specs.Start.{IsWayOf}
-use Rattle.log_cursor.specs.Touching.{first_hit_of, hit_left, touching_count, touching_left}
+use Rattle.log_cursor.specs.Touching.{first_hit_of, hit_left, touching_count, touching_left, touching_rule}
 use Rattle.log_cursor.specs.declared.descent.Descent.{Descent}
 use Rattle.log_cursor.specs.declared.descent.Stage.{Stage}
 use Rattle.log_cursor.specs.declared.descent.Stage.TheVariants.{Within, Touching, Parted, Found, Missed}
@@ -77,6 +79,33 @@ reads_from rules instant region at Missed = 0
 abbrev pub reads_of : RulesView → ℤ → Region → Descent → ℕ
 reads_of rules instant region descent = reads_from rules instant region descent.at descent.stage
 
+-- a rule is one that it may open yet
+abbrev pub rules_from : RulesView → ℤ → Region → Start → Stage → ℕ → Bool
+rules_from rules instant region at (Within symbol) rule =
+    touching_rule rules at (symbol ∷ []) instant instant region rule
+rules_from rules instant region at (Touching symbol) rule = symbol == rule
+    || touching_rule rules at (left_of rules symbol ∷ right_of rules symbol ∷ []) instant instant region rule
+rules_from rules instant region at (Parted left right) rule =
+    touching_rule rules at (left ∷ right ∷ []) instant instant region rule
+rules_from rules instant region at Found rule = false
+rules_from rules instant region at Missed rule = false
+
+-- the same, of a whole search
+abbrev pub rules_of : RulesView → ℤ → Region → Descent → ℕ → Bool
+rules_of rules instant region descent = rules_from rules instant region descent.at descent.stage
+
+-- a rule is the one that it opens next
+abbrev pub stage_rule : Stage → ℕ → Bool
+stage_rule (Within symbol) rule = false
+stage_rule (Touching symbol) rule = symbol == rule
+stage_rule (Parted left right) rule = false
+stage_rule Found rule = false
+stage_rule Missed rule = false
+
+-- the same, of a whole search
+abbrev pub next_rule : Descent → ℕ → Bool
+next_rule descent = stage_rule descent.stage
+
 -- how a search ends
 abbrev pub end_stage : Bool → Stage
 end_stage true = Found
@@ -139,8 +168,8 @@ abbrev pub first_reads : Option ℕ → ℕ
 first_reads None = 0
 first_reads (Some symbol) = 1
 
--- What a search in a log has done: the symbols from a place on have the stop, for one read each, and no more rules are to
--- be opened than in all.
+-- What a search in a log has done: the symbols from a place on have the stop, for one read each, and no more and no other
+-- rules are to be opened than in all.
 pub record IsPassing (rules : RulesView) (log : List ℕ) (start : Start) (instant : ℤ) (region : Region) (before i : ℕ)
     (at : Start) (steps : ℕ) : Type 0 where
   pub way : IsWayOf rules at (drop i log)
@@ -150,3 +179,5 @@ pub record IsPassing (rules : RulesView) (log : List ℕ) (start : Start) (insta
   pub cost : steps ≤ before + i
   pub fewer : touching_left rules instant instant region at (drop i log)
       ≤ touching_count rules start log instant instant region
+  pub opens : RulesWithin (touching_rule rules at (drop i log) instant instant region)
+      (touching_rule rules start log instant instant region)

@@ -3,6 +3,7 @@ pub mod Seek
 pub mod Pending
 pub mod Walk
 pub mod Touching
+pub mod Needs
 pub mod Descent
 pub mod Turn
 pub mod Opened

@@ -1,5 +1,7 @@
 -- What a search for the first stop in a region finds, and how many rules it opens.
 use Rattle.std.specs.Prelude.{◌≡◌, ℕ, ◌+◌, ◌≤◌, ℤ, Bool, true, false, ◌&&◌, List, [], ◌++◌, length, map, filter, find, slice_index, option_to_list, Option, Some, None, IfNone, IfSome}
+use Rattle.std.specs.List.{list_any}
+use Rattle.std.specs.Str.{bytes_eq}
 use Rattle.track_types.specs.Region.{in_region, intersects_region}
 use Rattle.track_types.specs.declared.cell.Cell.{Cell}
 use Rattle.track_types.specs.declared.cell_box.CellBox.{CellBox}
@@ -8,6 +10,7 @@ use Rattle.track_types.specs.declared.stop.Stop.{Stop}
 use Rattle.rule_store.specs.View.{RulesView}
 use Rattle.rule_store.specs.Boxes.{bounding_box_of}
 use Rattle.rule_store.specs.Cells.{displacement_of, moved}
+use Rattle.rule_store.specs.Expansion.{expansion_of}
 use Rattle.rule_store.specs.Log.{block_stops, in_window}
 use Rattle.rule_store.specs.Nodes.{RuleNode, meets, nodes_in}
 use Rattle.track_types.specs.Boxes.{moved_box}
@@ -49,6 +52,15 @@ is_touching rules start from to region node =
 unfoldable pub touching_count : RulesView → Start → List ℕ → ℤ → ℤ → Region → ℕ
 touching_count rules start log from to region =
     length (filter (is_touching rules start from to region) (nodes_in rules log))
+
+-- a rule stands for the terminals of a node
+abbrev pub is_rule_of : RulesView → ℕ → RuleNode → Bool
+is_rule_of rules rule node = bytes_eq (expansion_of rules rule) node.inside
+
+-- a rule stands for the terminals of one of these nodes
+unfoldable pub touching_rule : RulesView → Start → List ℕ → ℤ → ℤ → Region → ℕ → Bool
+touching_rule rules start log from to region rule =
+    list_any (is_rule_of rules rule) (filter (is_touching rules start from to region) (nodes_in rules log))
 
 -- the first stop of symbols in a window and a region
 abbrev pub hit_left : RulesView → ℤ → ℤ → Region → Start → List ℕ → Option Stop

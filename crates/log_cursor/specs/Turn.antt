@@ -1,6 +1,7 @@
 -- What a walk that looks for a stop has done: the one invariant of drawing stops and of searching a region.
 use Rattle.std.specs.Prelude.{◌≡◌, ℕ, ◌+◌, ◌*◌, ◌≤◌, ℤ, ◌≤ℤ◌, ◌<ℤ◌, Bool, true, ◌&&◌, List, ◌++◌, length, filter, find, Option, None}
 use Rattle.std.specs.Int.{int_min}
+use Rattle.std.specs.List.{list_any}
 use Rattle.std.specs.Option.{is_some}
 use Rattle.track_types.specs.Region.{in_region}
 use Rattle.track_types.specs.declared.cell.Cell.{Cell}
@@ -13,7 +14,7 @@ use Rattle.rule_store.specs.Cells.{displacement_of, moved}
 use Rattle.rule_store.specs.Nodes.{RuleNode, meets, nodes_in}
 use Rattle.log_cursor.specs.Pending.{PendingView}
 use Rattle.log_cursor.specs.Start.{IsWayOf}
-use Rattle.log_cursor.specs.Touching.{terminal_values}
+use Rattle.log_cursor.specs.Touching.{is_rule_of, terminal_values}
 use Rattle.log_cursor.specs.Walk.{reads_to, stops_left, WalkView}
 use Rattle.log_cursor.specs.declared.start.Start.{Start}
 
@@ -36,9 +37,18 @@ is_opening rules may from to start node =
     && may (moved start.cell (displacement_of (terminal_values rules node.before)))
     (bounding_box_of (terminal_values rules node.inside))
 
--- how many rules of symbols a walk opens by such a test
+-- the nodes of symbols that a walk opens by such a test
+abbrev pub opening_nodes : RulesView → (Cell → Option CellBox → Bool) → ℤ → ℤ → Start → List ℕ → List RuleNode
+opening_nodes rules may from to start symbols = filter (is_opening rules may from to start) (nodes_in rules symbols)
+
+-- how many they are
 unfoldable pub opening_count : RulesView → (Cell → Option CellBox → Bool) → ℤ → ℤ → Start → List ℕ → ℕ
-opening_count rules may from to start symbols = length (filter (is_opening rules may from to start) (nodes_in rules symbols))
+opening_count rules may from to start symbols = length (opening_nodes rules may from to start symbols)
+
+-- a rule stands for the terminals of one of them
+unfoldable pub opening_rule : RulesView → (Cell → Option CellBox → Bool) → ℤ → ℤ → Start → List ℕ → ℕ → Bool
+opening_rule rules may from to start symbols rule =
+    list_any (is_rule_of rules rule) (opening_nodes rules may from to start symbols)
 
 -- What a walk that has come to no wanted stop has done. It passed stops, and wants none of them. The others are those of
 -- the symbols that are left. Its reads, with those that are still to be made, are within a budget.

@@ -1,24 +1,27 @@
 ghost use Rattle.std.specs.Prelude.{◌≡◌, ◌+◌, ◌≤◌, ◌<◌, ℤ, length, if◌then◌else◌};
-ghost use Rattle.step_count.specs.Reads.{ReadsWithin};
+ghost use Rattle.step_count.specs.Reads.{ofRule, ReadsWithin};
 ghost use Rattle.std.specs.Option.{option_map};
 ghost use Rattle.track_types.specs.declared.region.Region.{Region};
 ghost use Rattle.rule_store.specs.Log.{log_of};
-ghost use Rattle.rule_store.specs.Needs.{log_needs, places_of, rule_needs};
+ghost use Rattle.rule_store.specs.Needs.{places_of};
 ghost use Rattle.rule_store.specs.View.{RulesView};
 ghost use Rattle.log_cursor.specs.Descent.{
   end_stage,
   first_needed,
   first_reads,
   hit_of,
+  next_rule,
   parted_of,
   reads_of,
   rest_of,
+  rules_of,
   turning_of,
   weight_of,
   IsDescent,
 };
+ghost use Rattle.log_cursor.specs.Needs.{symbol_needs, RulesWithin};
 ghost use Rattle.log_cursor.specs.Start.{IsPlaced};
-ghost use Rattle.log_cursor.specs.Touching.{first_hit_of, touching_count};
+ghost use Rattle.log_cursor.specs.Touching.{first_hit_of, touching_count, touching_rule};
 
 use crate::searching::{anchor_hit, touches};
 use crate::start::Start;
@@ -61,7 +64,7 @@ impl Descent {
         instant: i64,
         steps: &mut Steps<L>,
     ) -> Option<u32>
-        requires may { ReadsWithin (log_needs (places_of view)) L.may }
+        requires may { ReadsWithin (symbol_needs (places_of view)) L.may }
         ensures value { result ≡ first_needed (log_of view.entry) start instant }
         ensures cost { steps.new ≡ steps.old + first_reads result }
     {
@@ -84,7 +87,7 @@ impl Descent {
     ) -> Descent
         requires placed { IsPlaced view.rules.now start (log_of view) }
         requires first { first ≡ first_needed (log_of view) start instant }
-        requires may { ReadsWithin (log_needs (places_of view)) L.may }
+        requires may { ReadsWithin (symbol_needs (places_of view)) L.may }
         ensures sound { IsDescent view.entry.rules.now instant result }
         ensures hit { hit_of view.entry.rules.now instant test.now.region result
             ≡ first_hit_of view.entry.rules.now (log_of view.entry) start instant instant
@@ -92,6 +95,9 @@ impl Descent {
         ensures cost { steps.new + (first_reads first + reads_of view.entry.rules.now instant
             test.now.region result) ≤ steps.old + (length (log_of view.entry) + touching_count
             view.entry.rules.now start (log_of view.entry) instant instant test.now.region) }
+        ensures opens { RulesWithin (rules_of view.entry.rules.now instant test.now.region result)
+            (touching_rule view.entry.rules.now start (log_of view.entry) instant instant
+            test.now.region) }
     {
         let Some(first) = first else {
             let anchor = anchor_hit(start, instant, instant, test);
@@ -145,6 +151,8 @@ impl Descent {
         ensures weight { weight_of result ≤ weight_of self }
         ensures cost { reads_of rules.now instant test.now.region result
             ≤ reads_of rules.now instant test.now.region self }
+        ensures opens { RulesWithin (rules_of rules.now instant test.now.region result)
+            (rules_of rules.now instant test.now.region self) }
     {
         let Stage::Within(symbol) = self.stage else {
             return self;
@@ -165,7 +173,7 @@ impl Descent {
     /// The search after the rule that touches the region was opened.
     pub fn opened<L: Reads>(self, rules: &RuleStore, instant: i64, steps: &mut Steps<L>) -> Descent
         requires sound { IsDescent rules.now instant self }
-        requires may { ReadsWithin rule_needs L.may }
+        requires may { RulesWithin (next_rule self) (λ rule. L.may (ofRule rule)) }
         ensures sound { IsDescent rules.now instant result }
         ensures hit { (region : Region) → hit_of rules.now instant region result
             ≡ hit_of rules.now instant region self }
@@ -174,6 +182,8 @@ impl Descent {
         ensures weight { weight_of result ≤ weight_of self }
         ensures cost { (region : Region) → steps.new + reads_of rules.now instant region result
             ≤ steps.old + reads_of rules.now instant region self }
+        ensures opens { (region : Region) → RulesWithin (rules_of rules.now instant region result)
+            (rules_of rules.now instant region self) }
     {
         let Stage::Touching(rule) = self.stage else {
             return self;
@@ -195,6 +205,8 @@ impl Descent {
         ensures weight { weight_of result + parted_of self ≤ weight_of self }
         ensures cost { (region : Region) → reads_of rules.now instant region result
             ≤ reads_of rules.now instant region self }
+        ensures opens { (region : Region) → RulesWithin (rules_of rules.now instant region result)
+            (rules_of rules.now instant region self) }
     {
         let Stage::Parted(left, right) = self.stage else {
             return self;

@@ -1,9 +1,10 @@
-ghost use Rattle.std.specs.Prelude.{◌≡◌, ◌+◌, ◌<◌, ◌≤◌, [], ◌∷◌, length, IfNone, IfSome, IfOk, nat_le};
-ghost use Rattle.step_count.specs.Reads.{ReadsWithin};
+ghost use Rattle.std.specs.Prelude.{◌≡◌, ℕ, ◌+◌, ◌<◌, ◌≤◌, [], ◌∷◌, length, nat_le};
+ghost use Rattle.std.specs.Prelude.{IfNone, IfOk, IfSome, IsTrue};
+ghost use Rattle.step_count.specs.Reads.{ofRule, ofSymbol};
 ghost use Rattle.rule_store.specs.Flaws.{AreRules, left_of, right_of};
 ghost use Rattle.rule_store.specs.Log.{log_of};
 ghost use Rattle.rule_store.specs.Cost.{parts_reads};
-ghost use Rattle.rule_store.specs.Needs.{log_needs, places_of};
+ghost use Rattle.rule_store.specs.Needs.{is_among, places_of};
 ghost use Rattle.log_cursor.specs.Pending.{IsRoomy, IsTaken};
 ghost use Rattle.rule_store.specs.View.{symbols_in};
 
@@ -85,7 +86,8 @@ impl<'a> Pending<'a> {
 
     /// Takes the next symbol off and answers its entry. A symbol of the log is read.
     pub fn next<L: Reads>(&mut self, steps: &mut Steps<L>) -> Option<Entry>
-        requires may { ReadsWithin (log_needs self.old.places) L.may }
+        requires may { (place : ℕ) → IsTrue (is_among self.old.places place)
+            → IsTrue (L.may (ofSymbol place)) }
         ensures rules { self.new.rules ≡ self.old.rules }
         ensures places { self.new.places ≡ self.old.places }
         ensures none { IfNone result (self.old.symbols ≡ []) }
@@ -118,7 +120,7 @@ impl<'a> Pending<'a> {
     pub fn open<L: Reads>(&mut self, rule: u32, steps: &mut Steps<L>)
         requires rule { length self.old.rules.alphabet ≤ rule }
         requires roomy { IsRoomy self.old.rules self.old.depth rule }
-        requires may { ReadsWithin (log_needs self.old.places) L.may }
+        requires may { IsTrue (L.may (ofRule rule)) }
         ensures rules { self.new.rules ≡ self.old.rules }
         ensures places { self.new.places ≡ self.old.places }
         ensures symbols { self.new.symbols

@@ -2,7 +2,8 @@ ghost use Rattle.std.specs.Prelude.{◌≡◌, ◌+◌, ◌≤◌, ◌≤ℤ◌,
 ghost use Rattle.step_count.specs.Reads.{ReadsWithin};
 ghost use Rattle.track_types.specs.Near.{IsBoxWithin, IsCellAsked};
 ghost use Rattle.rule_store.specs.Log.{in_window, log_of, stop_at};
-ghost use Rattle.rule_store.specs.Needs.{log_needs, places_of};
+ghost use Rattle.rule_store.specs.Needs.{places_of};
+ghost use Rattle.log_cursor.specs.Needs.{search_needs};
 ghost use Rattle.log_cursor.specs.Start.{IsBoxAsked, IsHullAsked, IsPlaced, IsWayOf};
 ghost use Rattle.track_types.specs.Boxes.{moved_box};
 ghost use Rattle.log_cursor.specs.Walk.{opened_left};
@@ -14,6 +15,7 @@ ghost use Rattle.log_cursor.specs.Touching.{
   touches_at,
   touching_count,
   touching_left,
+  touching_rule,
 };
 
 use crate::opened::Opened;
@@ -47,7 +49,8 @@ pub fn first_hit<L: Reads>(
     steps: &mut Steps<L>,
 ) -> Result<Option<Stop>, Memory>
     requires placed { IsPlaced view.rules.now start (log_of view) }
-    requires may { ReadsWithin (log_needs (places_of view)) L.may }
+    requires may { ReadsWithin (search_needs (places_of view) (touching_rule view.rules.now start
+        (log_of view) from to test.now.region)) L.may }
     ensures value { IfOk result (λ found. found
         ≡ first_hit_of view.entry.rules.now (log_of view.entry) start from to test.now.region) }
     ensures cost { steps.new ≤ steps.old + (length (log_of view.entry)
@@ -71,7 +74,8 @@ pub fn first_hit_with<'a, L: Reads>(
 ) -> Option<Stop>
     requires rules { view.rules.now ≡ pending.old.rules }
     requires placed { IsPlaced view.rules.now start (log_of view) }
-    requires may { ReadsWithin (log_needs (places_of view)) L.may }
+    requires may { ReadsWithin (search_needs (places_of view) (touching_rule view.rules.now start
+        (log_of view) from to test.now.region)) L.may }
     ensures value { result
         ≡ first_hit_of view.entry.rules.now (log_of view.entry) start from to test.now.region }
     ensures rules { pending.new.rules ≡ pending.old.rules }
@@ -115,7 +119,8 @@ pub(crate) fn hit_after<L: Reads>(
 ) -> Option<Stop>
     requires way { IsWayOf pending.old.rules start pending.old.symbols }
     requires window { from ≤ℤ to }
-    requires may { ReadsWithin (log_needs pending.old.places) L.may }
+    requires may { ReadsWithin (search_needs pending.old.places (touching_rule pending.old.rules
+        start pending.old.symbols from to test.now.region)) L.may }
     ensures value { result ≡ hit_left pending.old.rules from to test.now.region start
         pending.old.symbols }
     ensures left { IfSome result (IsHitOf test.now.region from to start pending.old pending.new
@@ -163,7 +168,8 @@ fn hit_beyond<L: Reads>(
 ) -> Option<Stop>
     requires way { IsWayOf pending.old.rules start pending.old.symbols }
     requires window { from ≤ℤ to }
-    requires may { ReadsWithin (log_needs pending.old.places) L.may }
+    requires may { ReadsWithin (search_needs pending.old.places (touching_rule pending.old.rules
+        start pending.old.symbols from to test.now.region)) L.may }
     ensures value { result ≡ hit_left pending.old.rules from to test.now.region start
         pending.old.symbols }
     ensures left { IfSome result (IsHitOf test.now.region from to start pending.old pending.new

@@ -50,7 +50,9 @@ hit_after-requires g c =
     let same : now.rules ≡ rules = c.begin.ensures.rules ∙ sym c.requires.rules in
     let sound : AreRules rules = subst AreRules same c.begin.ensures.sound in
     let way = IsWayOf-placed rules c.args.start log sound (length-log_of c.args.view sound) c.requires.placed in
-    rw (same, c.begin.ensures.symbols, c.begin.ensures.places)
+    let from : word c.args.from ≡ c.args.from = omega (arith, ints) in
+    let to : word c.args.to ≡ c.args.to = omega (arith, ints) in
+    rw (same, c.begin.ensures.symbols, c.begin.ensures.places, from, to)
     (record { way = way; window = omega (arith, ints, c.if-to-from.false); may = c.requires.may })
 
 pub returns-clause-value : goal.returns-clause-value

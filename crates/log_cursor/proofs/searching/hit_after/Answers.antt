@@ -1,5 +1,5 @@
 use Rattle.std.proofs.lemmas.Grind.{common_steps}
-use Rattle.std.proofs.Common.{◌≡◌, ℕ, ◌+◌, ◌<◌, ◌≤◌, ℤ, ◌≤ℤ◌, ◌<ℤ◌, Bool, true, List, [], length, Option, refl, sym, ◌∙◌, arith, rules, w64, ◌⊎◌, inl, inr}
+use Rattle.std.proofs.Common.{◌≡◌, ℕ, ◌+◌, ◌<◌, ◌≤◌, ℤ, ◌≤ℤ◌, ◌<ℤ◌, Bool, true, IsTrue, List, [], length, Option, refl, subst, sym, ◌∙◌, arith, rules, w64, ◌⊎◌, inl, inr}
 use Rattle.std.specs.Option.{is_some}
 use Rattle.std.proofs.lemmas.Bool.{leb-false, leb-true}
 use Rattle.std.proofs.lemmas.Int.{ints, to_z-of_z}
@@ -7,21 +7,25 @@ use Rattle.track_types.specs.declared.cell.Cell.{Cell}
 use Rattle.track_types.specs.declared.cell_box.CellBox.{CellBox}
 use Rattle.track_types.specs.declared.region.Region.{Region}
 use Rattle.track_types.specs.declared.stop.Stop.{Stop}
+use Rattle.step_count.specs.Reads.{ofRule, ofSymbol}
 use Rattle.rule_store.specs.View.{RulesView}
+use Rattle.rule_store.specs.Needs.{is_among}
+use Rattle.log_cursor.specs.Needs.{RulesWithin}
 use Rattle.rule_store.specs.Log.{stop_at}
 use Rattle.log_cursor.specs.Opened.{IsOutside}
 use Rattle.rule_store.specs.Expansion.{values_of}
 use Rattle.log_cursor.specs.Pending.{PendingView}
 use Rattle.log_cursor.specs.Start.{IsWayOf}
-use Rattle.log_cursor.specs.Touching.{IsHitOf, touches_at, touching_left}
+use Rattle.log_cursor.specs.Touching.{IsHitOf, touches_at, touching_left, touching_rule}
 use Rattle.log_cursor.specs.Turn.{IsWalking, has_hull, is_hit, opening_count}
 use Rattle.log_cursor.specs.Walk.{opened_left, stops_left}
 use Rattle.log_cursor.specs.declared.start.Start.{Start}
 use Rattle.log_cursor.proofs.StopLemmas.{word}
 use Rattle.log_cursor.proofs.HitLemmas.{outside-along, touches_at-some}
 use Rattle.log_cursor.proofs.OpenedLemmas.{is_hit-after, turn-past}
-use Rattle.log_cursor.proofs.TouchLemmas.{opened_left-count, touching_left-count}
-use Rattle.log_cursor.proofs.TurnLemmas.{IsTurn, find-passed, taken-near, taken-next, turn-fewer, turn-held, turn-hull, turn-opened, turn-opened-fewer, turn-reads, turn-rules, turn-stop, turn-way, walking-end, walking-over}
+use Rattle.log_cursor.proofs.NeedsLemmas.{search-same}
+use Rattle.log_cursor.proofs.TouchLemmas.{opened_left-count, touching_left-count, touching_rule-from, touching_rule-to}
+use Rattle.log_cursor.proofs.TurnLemmas.{IsTurn, find-passed, taken-near, taken-next, turn-fewer, turn-held, turn-hull, turn-opened, turn-opened-fewer, turn-opened-rules, turn-own, turn-reads, turn-rules, turn-rules-left, turn-stop, turn-way, walking-end, walking-over}
 use Rattle.log_cursor.proofs.searching.hit_after.Given.{Over}
 use Rattle.log_cursor.proofs.searching.hit_after.Goals as goal
 use Rattle.log_cursor.proofs.searching.hit_after.Goals.{After-after-next, After-is_rule}
@@ -58,6 +62,7 @@ loop-at-init g c =
       drawing = begun region has_hull first _ from to c.args.start c.args.steps.now c.requires.way window (omega (arith, all));
       few = omega arith;
       places = refl;
+      opens = λ rule is. is;
     }
 
 pub returns-in_err-entry-clause-value : goal.returns-in_err-entry-clause-value
@@ -104,7 +109,13 @@ loop-at-preserved-then-next-from g c =
           inl (outside-along c.args.test.now.region c.loop-at.at.cell _ c.in_ok-entry.entry.hull (turn-hull its)
           (sym w.touches.ensures ∙ w.if-not-touches.true))
     ] in
-    record { walking = turn-past c.args.test.now.region its passed; drawing = turn-past c.args.test.now.region draw passed; few = c.loop-at.invariant.few; places = c.next.ensures.places ∙ c.loop-at.invariant.places }
+    record {
+      walking = turn-past c.args.test.now.region its passed;
+      drawing = turn-past c.args.test.now.region draw passed;
+      few = c.loop-at.invariant.few;
+      places = c.next.ensures.places ∙ c.loop-at.invariant.places;
+      opens = λ rule is. c.loop-at.invariant.opens rule (turn-rules-left its rule is);
+    }
 
 -- where its entry is not passed over, the window has instants after it and up to its end, its box touches the region, and
 -- so it has one
@@ -185,7 +196,19 @@ returns-then-not-is_rule-clause-budget g c =
     omega (arith, rw (from, to) at (turn-reads its))
 
 pub open-requires-clause-may : goal.open-requires-clause-may
-open-requires-clause-may g c = rw (c.next.ensures.places ∙ c.loop-at.invariant.places) c.requires.may
+open-requires-clause-may g c =
+    let at = goal.at.open-requires-clause-may g c in
+    let its = within g at.After-is_rule in
+    let first = c.args.pending.now in
+    let symbol = c.in_ok-entry.entry.symbol in
+    let rule : length c.next.new.self.rules.alphabet ≤ symbol =
+    leb-true _ _ (sym c.is_rule.ensures ∙ c.if-not-is_rule.false) in
+    let from : word c.args.from ≡ c.args.from = to_z-of_z w64 _ (search rules) in
+    let to : word c.args.to ≡ c.args.to = to_z-of_z w64 _ (search rules) in
+    let own = c.loop-at.invariant.opens symbol
+    (turn-own (turn g at.After-after-next c.loop-at.invariant.walking) its.0 its.1 its.2 c.next.ensures.sound rule) in
+    c.requires.may (ofRule symbol) (touching_rule-from first.rules c.args.from c.args.to c.args.test.now.region c.args.start
+    first.symbols symbol (rw (from, to) at own))
 
 pub loop-at-smaller : goal.loop-at-smaller
 loop-at-smaller g c =
@@ -210,11 +233,10 @@ loop-at-preserved g c =
           c.open.ensures.rules c.open.ensures.symbols c.open.ensures.unread c.open.ensures.cost;
       few = omega (arith, c.if-opened-ge-FORGOTTEN.false);
       places = c.open.ensures.places ∙ c.next.ensures.places ∙ c.loop-at.invariant.places;
+      opens = λ symbol is. c.loop-at.invariant.opens symbol (turn-opened-rules turned its.0 its.1 its.2
+          c.next.ensures.sound rule c.open.new.self c.open.new.steps c.open.ensures.rules c.open.ensures.symbols
+          c.open.ensures.unread c.open.ensures.cost symbol is);
     }
-
-pub hit_beyond-requires-clause-may : goal.hit_beyond-requires-clause-may
-hit_beyond-requires-clause-may g c =
-    rw (c.open.ensures.places ∙ c.next.ensures.places ∙ c.loop-at.invariant.places) c.requires.may
 
 -- the search goes on from where it has come
 pub hit_beyond-requires-clause-way : goal.hit_beyond-requires-clause-way
@@ -227,6 +249,30 @@ hit_beyond-requires-clause-way g c =
     c.next.ensures.sound rule c.open.new.self c.open.new.steps c.open.ensures.rules c.open.ensures.symbols
     c.open.ensures.unread c.open.ensures.cost in
     rw walking.same walking.way
+
+-- and opens no other rules
+pub hit_beyond-requires-clause-may : goal.hit_beyond-requires-clause-may
+hit_beyond-requires-clause-may g c =
+    let at = goal.at.hit_beyond-requires-clause-may g c in
+    let its = within g at.After-is_rule in
+    let first = c.args.pending.now in
+    let later = c.open.new.self in
+    let region = c.args.test.now.region in
+    let turned = turn g at.After-after-next c.loop-at.invariant.walking in
+    let rule : length c.next.new.self.rules.alphabet ≤ c.in_ok-entry.entry.symbol =
+    leb-true _ _ (sym c.is_rule.ensures ∙ c.if-not-is_rule.false) in
+    let from : word c.args.from ≡ c.args.from = to_z-of_z w64 _ (search rules) in
+    let to : word c.args.to ≡ c.args.to = to_z-of_z w64 _ (search rules) in
+    let same : later.rules ≡ first.rules = c.open.ensures.rules ∙ turn-rules turned in
+    let opens : RulesWithin (touching_rule first.rules c.loop-at.at later.symbols (word c.args.from) (word c.args.to) region)
+    (touching_rule first.rules c.args.start first.symbols c.args.from c.args.to region) =
+    λ symbol touches. (
+    let before = c.loop-at.invariant.opens symbol (turn-opened-rules turned its.0 its.1 its.2 c.next.ensures.sound rule
+    later c.open.new.steps c.open.ensures.rules c.open.ensures.symbols c.open.ensures.unread c.open.ensures.cost symbol
+    (touching_rule-to first.rules (word c.args.from) (word c.args.to) region c.loop-at.at later.symbols symbol touches)) in
+    touching_rule-from first.rules c.args.from c.args.to region c.args.start first.symbols symbol (rw (from, to) at before)) in
+    rw same (λ read needed. c.requires.may read (search-same later.places first.places _ _
+    (c.open.ensures.places ∙ c.next.ensures.places ∙ c.loop-at.invariant.places) opens read needed))
 
 pub returns-then-opened-ge-FORGOTTEN-clause-value : goal.returns-then-opened-ge-FORGOTTEN-clause-value
 returns-then-opened-ge-FORGOTTEN-clause-value g c =
@@ -302,7 +348,10 @@ returns-clause-value g c =
     rw (from, to) at (sym (walking-over c.loop-at.invariant.walking (omega (arith, ints, c.loop-at-test.false))))
 
 pub next-requires : goal.next-requires
-next-requires g c = search rules
+next-requires g c = record {
+  may = λ place is. c.requires.may (ofSymbol place)
+      (subst (λ (p : ℕ × ℕ). IsTrue (is_among p place)) c.loop-at.invariant.places is);
+}
 
 pub returns-in_err-entry-clause-left : goal.returns-in_err-entry-clause-left
 returns-in_err-entry-clause-left g c = grind (arith, common_steps)

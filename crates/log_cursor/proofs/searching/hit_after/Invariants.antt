@@ -1,10 +1,11 @@
 use Rattle.std.proofs.Common.{◌≡◌, ◌+◌, ◌<◌}
+use Rattle.log_cursor.specs.Needs.{RulesWithin}
 use Rattle.log_cursor.specs.Touching.{touches_at, touching_left}
-use Rattle.log_cursor.specs.Turn.{IsWalking, has_hull, is_hit, turns_left}
+use Rattle.log_cursor.specs.Turn.{IsWalking, has_hull, is_hit, opening_rule, turns_left}
 use Rattle.log_cursor.specs.Walk.{opened_left, stops_left}
 use Rattle.log_cursor.proofs.searching.hit_after.Given as goal
 
--- what was taken off has no hit, and what is left has the other stops
+-- what was taken off has no hit, and what is left has the other stops, and no other rules to be opened
 abbrev pub invariant-loop-at : goal.invariant-loop-at
 invariant-loop-at g l =
     let first = l.fn.pending in
@@ -19,6 +20,8 @@ invariant-loop-at g l =
           l.fn.from l.fn.to l.pending l.at l.steps;
       few : l.opened < 64;
       places : l.pending.places ≡ first.places;
+      opens : RulesWithin (opening_rule first.rules (touches_at region) l.fn.from l.fn.to l.at l.pending.symbols)
+          (opening_rule first.rules (touches_at region) l.fn.from l.fn.to l.fn.start first.symbols);
     }
 
 abbrev pub decreases-loop-at : goal.decreases-loop-at

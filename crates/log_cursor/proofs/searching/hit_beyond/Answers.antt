@@ -1,5 +1,5 @@
 use Rattle.std.proofs.lemmas.Grind.{common_steps}
-use Rattle.std.proofs.Common.{◌≡◌, ℕ, ◌+◌, ◌<◌, ◌≤◌, ℤ, ◌≤ℤ◌, ◌<ℤ◌, Bool, true, List, [], length, Option, refl, subst, sym, ◌∙◌, arith, rules, w64, inl, inr}
+use Rattle.std.proofs.Common.{◌≡◌, ℕ, ◌+◌, ◌<◌, ◌≤◌, ℤ, ◌≤ℤ◌, ◌<ℤ◌, Bool, true, IsTrue, List, [], length, Option, refl, subst, sym, ◌∙◌, arith, rules, w64, inl, inr}
 use Rattle.std.specs.Option.{is_some}
 use Rattle.std.proofs.lemmas.Bool.{leb-false, leb-true}
 use Rattle.std.proofs.lemmas.Int.{ints, to_z-of_z}
@@ -7,7 +7,9 @@ use Rattle.track_types.specs.declared.cell.Cell.{Cell}
 use Rattle.track_types.specs.declared.cell_box.CellBox.{CellBox}
 use Rattle.track_types.specs.declared.region.Region.{Region}
 use Rattle.track_types.specs.declared.stop.Stop.{Stop}
+use Rattle.step_count.specs.Reads.{ofRule, ofSymbol}
 use Rattle.rule_store.specs.View.{RulesView}
+use Rattle.rule_store.specs.Needs.{is_among}
 use Rattle.rule_store.specs.Log.{stop_at}
 use Rattle.log_cursor.specs.Opened.{Has}
 use Rattle.log_cursor.specs.Pending.{PendingView}
@@ -19,8 +21,8 @@ use Rattle.log_cursor.specs.declared.start.Start.{Start}
 use Rattle.log_cursor.proofs.StopLemmas.{word}
 use Rattle.log_cursor.proofs.HitLemmas.{outside-along, touches_at-some}
 use Rattle.log_cursor.proofs.OpenedLemmas.{AreGoneOver-none, turn-again, turn-kept, turn-passed}
-use Rattle.log_cursor.proofs.TouchLemmas.{opened_left-count, touching_left-count}
-use Rattle.log_cursor.proofs.TurnLemmas.{IsTurn, find-passed, taken-near, taken-next, turn-fewer, turn-held, turn-hull, turn-opened, turn-opened-fewer, turn-reads, turn-rules, turn-stop, turn-way, walking-end, walking-over}
+use Rattle.log_cursor.proofs.TouchLemmas.{opened_left-count, touching_left-count, touching_rule-from}
+use Rattle.log_cursor.proofs.TurnLemmas.{IsTurn, find-passed, taken-near, taken-next, turn-fewer, turn-held, turn-hull, turn-opened, turn-opened-fewer, turn-opened-rules, turn-own, turn-reads, turn-rules, turn-rules-left, turn-stop, turn-way, walking-end, walking-over}
 use Rattle.log_cursor.proofs.searching.hit_beyond.Given.{Over}
 use Rattle.log_cursor.proofs.searching.hit_beyond.Goals as goal
 use Rattle.log_cursor.proofs.searching.hit_beyond.Goals.{After-after-next, After-is_rule}
@@ -59,6 +61,7 @@ loop-at-init g c =
         gone = AreGoneOver-none first.rules region from c.new-opened.result first.symbols c.args.start c.new-opened.ensures;
       },
       refl,
+      λ rule is. is,
     )
 
 pub returns-in_err-entry-clause-value : goal.returns-in_err-entry-clause-value
@@ -108,6 +111,7 @@ loop-at-preserved-then-next-from g c =
             inl (turn-again its draw gone (w.has.ensures w.if-has.true))
       ]),
       c.next.ensures.places ∙ c.loop-at.invariant.1,
+      λ rule is. c.loop-at.invariant.2 rule (turn-rules-left its rule is),
     )
 
 -- where its entry is not passed over, the window has instants after it and up to its end, its box touches the region, and
@@ -189,7 +193,19 @@ returns-then-not-is_rule-clause-budget g c =
     omega (arith, rw (from, to) at (turn-reads its))
 
 pub open-requires-clause-may : goal.open-requires-clause-may
-open-requires-clause-may g c = rw (c.next.ensures.places ∙ c.loop-at.invariant.1) c.requires.may
+open-requires-clause-may g c =
+    let at = goal.at.open-requires-clause-may g c in
+    let its = within g at.After-is_rule in
+    let first = c.args.pending.now in
+    let symbol = c.in_ok-entry.entry.symbol in
+    let rule : length c.next.new.self.rules.alphabet ≤ symbol =
+    leb-true _ _ (sym c.is_rule.ensures ∙ c.if-not-is_rule.false) in
+    let from : word c.args.from ≡ c.args.from = to_z-of_z w64 _ (search rules) in
+    let to : word c.args.to ≡ c.args.to = to_z-of_z w64 _ (search rules) in
+    let own = c.loop-at.invariant.2 symbol
+    (turn-own (turn g at.After-after-next c.loop-at.invariant.0.walking) its.0 its.1 its.2 c.next.ensures.sound rule) in
+    c.requires.may (ofRule symbol) (touching_rule-from first.rules c.args.from c.args.to c.args.test.now.region c.args.start
+    first.symbols symbol (rw (from, to) at own))
 
 pub loop-at-smaller : goal.loop-at-smaller
 loop-at-smaller g c =
@@ -224,6 +240,9 @@ loop-at-preserved g c =
             ]);
       },
       c.open.ensures.places ∙ c.next.ensures.places ∙ c.loop-at.invariant.1,
+      λ symbol is. c.loop-at.invariant.2 symbol (turn-opened-rules turned its.0 its.1 its.2 c.next.ensures.sound rule
+          c.open.new.self c.open.new.steps c.open.ensures.rules c.open.ensures.symbols c.open.ensures.unread
+          c.open.ensures.cost symbol is),
     )
 
 pub returns-clause-value : goal.returns-clause-value
@@ -233,7 +252,10 @@ returns-clause-value g c =
     rw (from, to) at (sym (walking-over c.loop-at.invariant.0.walking (omega (arith, ints, c.loop-at-test.false))))
 
 pub next-requires : goal.next-requires
-next-requires g c = search rules
+next-requires g c = record {
+  may = λ place is. c.requires.may (ofSymbol place)
+      (subst (λ (p : ℕ × ℕ). IsTrue (is_among p place)) c.loop-at.invariant.1 is);
+}
 
 pub returns-in_err-entry-clause-left : goal.returns-in_err-entry-clause-left
 returns-in_err-entry-clause-left g c = grind (arith, common_steps)

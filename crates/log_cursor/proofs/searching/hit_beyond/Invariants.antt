@@ -1,11 +1,12 @@
 use Rattle.std.proofs.Common.{◌≡◌, ◌+◌}
+use Rattle.log_cursor.specs.Needs.{RulesWithin}
 use Rattle.log_cursor.specs.Opened.{IsSearching}
 use Rattle.log_cursor.specs.Touching.{touches_at, touching_left}
-use Rattle.log_cursor.specs.Turn.{turns_left}
+use Rattle.log_cursor.specs.Turn.{opening_rule, turns_left}
 use Rattle.log_cursor.specs.Walk.{opened_left, stops_left}
 use Rattle.log_cursor.proofs.searching.hit_beyond.Given as goal
 
--- what was taken off has no hit, and what is left has the other stops
+-- what was taken off has no hit, and what is left has the other stops, and no other rules to be opened
 abbrev pub invariant-loop-at : goal.invariant-loop-at
 invariant-loop-at g l =
     let first = l.fn.pending in
@@ -14,7 +15,10 @@ invariant-loop-at g l =
     (stops_left first.rules l.fn.from l.fn.to l.fn.start first.symbols)
     (l.fn.steps + (first.unread + touching_left first.rules l.fn.from l.fn.to region l.fn.start first.symbols))
     (l.fn.steps + (first.unread + opened_left first.rules l.fn.from l.fn.to l.fn.start first.symbols)) l.fn.from l.fn.to
-    l.opened l.pending l.at l.steps) × (l.pending.places ≡ first.places)
+    l.opened l.pending l.at l.steps)
+    × (l.pending.places ≡ first.places)
+    × RulesWithin (opening_rule first.rules (touches_at region) l.fn.from l.fn.to l.at l.pending.symbols)
+    (opening_rule first.rules (touches_at region) l.fn.from l.fn.to l.fn.start first.symbols)
 
 abbrev pub decreases-loop-at : goal.decreases-loop-at
 decreases-loop-at g l =

@@ -1,16 +1,19 @@
-use Rattle.std.proofs.Common.{◌≡◌, ◌+◌, ◌≤ℤ◌, ◌<ℤ◌, [], ◌∷◌, Some, None, ap, subst, sym, ◌∙◌, arith, rules, w64}
+use Rattle.std.proofs.Common.{◌≡◌, ◌+◌, false, ◌≤ℤ◌, ◌<ℤ◌, [], ◌∷◌, Some, None, ap, subst, sym, ◌∙◌, arith, rules, w64}
 use Rattle.std.proofs.lemmas.Int.{ints, to_z-of_z}
 use Rattle.rule_store.specs.Entry.{entry_of}
 use Rattle.rule_store.specs.Flaws.{AreRules}
 use Rattle.rule_store.specs.Log.{in_window, log_of, stop_at}
 use Rattle.rule_store.specs.View.{RulesView}
-use Rattle.rule_store.proofs.NeedsLemmas.{may-symbol}
+use Rattle.step_count.specs.Reads.{ofSymbol}
 use Rattle.log_cursor.specs.Descent.{first_needed, hit_from}
 use Rattle.log_cursor.specs.Touching.{first_among}
-use Rattle.log_cursor.proofs.DescentLemmas.{IsPassed, anchor-end, passing-cost, passing-found, passing-last, passing-next, passing-start, passing-within}
+use Rattle.log_cursor.proofs.DescentLemmas.{IsPassed, anchor-end, passing-cost, passing-found, passing-last, passing-next}
+use Rattle.log_cursor.proofs.DescentLemmas.{passing-opens, passing-start, passing-within}
+use Rattle.log_cursor.proofs.NeedsLemmas.{symbol-among}
 use Rattle.log_cursor.proofs.FirstLemmas.{first-known, first-over, first-passed, first-some}
 use Rattle.log_cursor.proofs.StopLemmas.{word}
 use Rattle.log_cursor.proofs.WayLemmas.{IsWayOf-placed, length-log_of}
+use Rattle.log_cursor.proofs.StageLemmas.{end_stage-rules}
 use Rattle.log_cursor.proofs.descent.Descent.begin.Given.{Over}
 use Rattle.log_cursor.proofs.descent.Descent.begin.Goals as goal
 use Rattle.log_cursor.proofs.descent.Descent.begin.Goals.{After-entry-entry, After-entry-entry-in-loop-i}
@@ -99,7 +102,8 @@ passed g c = record {
 
 pub entry-entry-requires-in-loop-i-clause-may : goal.entry-entry-requires-in-loop-i-clause-may
 entry-entry-requires-in-loop-i-clause-may g c =
-    may-symbol g.L.Reads.may c.args.view c.loop-i.i (omega (arith, c.len-i-end.ensures, c.loop-i-test.true)) c.requires.may
+    c.requires.may (ofSymbol (c.args.view.from + c.loop-i.i))
+    (symbol-among c.args.view c.loop-i.i (omega (arith, c.len-i-end.ensures, c.loop-i-test.true)))
 
 pub after-next-requires : goal.after-next-requires
 after-next-requires g c = passing-start (passed g (goal.at.after-next-requires g c).After-entry-entry-in-loop-i)
@@ -144,3 +148,27 @@ returns-clause-cost g c =
     let its = first-some (log_of c.args.view) c.args.start c.args.instant c.in-Some.first
     (sym c.in-Some.is ∙ c.requires.first) in
     rw (c.in-Some.is, c.over-2.ensures.stage) (omega (arith, its.some, c.loop-i.invariant.cost, c.loop-i.auto.i-end, c.len-i-end.ensures))
+
+pub returns-in_default-clause-opens : goal.returns-in_default-clause-opens
+returns-in_default-clause-opens g c =
+    rw c.over.ensures.stage
+    (end_stage-rules c.args.view.rules.now c.args.instant c.args.test.now.region c.over.result.at c.is_some.result _)
+
+pub returns-then-instant-at-clause-opens : goal.returns-then-instant-at-clause-opens
+returns-then-instant-at-clause-opens g c =
+    let its = begun g (goal.at.returns-then-instant-at-clause-opens g c).After-entry-entry in
+    let kept : word c.args.instant ≡ c.args.instant = to_z-of_z w64 _ (search rules) in
+    let reached : word c.args.instant ≤ℤ c.after-at.result.instant = omega (arith, ints, c.if-instant-at.true) in
+    rw kept at (passing-opens its c.after-at.ensures reached)
+
+pub returns-then-instant-next-clause-opens : goal.returns-then-instant-next-clause-opens
+returns-then-instant-next-clause-opens g c =
+    let its = passed g (goal.at.returns-then-instant-next-clause-opens g c).After-entry-entry-in-loop-i in
+    let kept : word c.args.instant ≡ c.args.instant = to_z-of_z w64 _ (search rules) in
+    let reached : word c.args.instant ≤ℤ c.after-next.result.instant = omega (arith, ints, c.if-instant-next.true) in
+    rw kept at (passing-opens its c.after-next.ensures reached)
+
+pub returns-clause-opens : goal.returns-clause-opens
+returns-clause-opens g c =
+    rw c.over-2.ensures.stage
+    (end_stage-rules c.args.view.rules.now c.args.instant c.args.test.now.region c.over-2.result.at false _)

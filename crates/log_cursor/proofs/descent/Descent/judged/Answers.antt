@@ -1,8 +1,10 @@
-use Rattle.std.proofs.Common.{◌<◌, ◌≤◌, length, ap, subst, sym, ◌∙◌, arith}
+use Rattle.std.proofs.Common.{◌<◌, ◌≤◌, true, false, length, ap, subst, sym, ◌∙◌, arith}
 use Rattle.std.proofs.lemmas.Bool.{leb-false, leb-true}
 use Rattle.log_cursor.specs.Descent.{IsStage, IsTouching, IsWithin, hit_from, reads_from, stage_weight}
-use Rattle.log_cursor.proofs.DescentLemmas.{within-count, within-near, within-outside, within-start, within-terminal}
+use Rattle.log_cursor.proofs.DescentLemmas.{within-count, within-near, within-opens, within-outside}
+use Rattle.log_cursor.proofs.DescentLemmas.{within-start, within-terminal}
 use Rattle.log_cursor.proofs.RuleLemmas.{parts-below}
+use Rattle.log_cursor.proofs.StageLemmas.{end_stage-rules}
 use Rattle.log_cursor.proofs.descent.Descent.judged.Goals as goal
 use Rattle.log_cursor.proofs.descent.Descent.judged.Goals.{After-entry-entry}
 use Rattle.log_cursor.proofs.descent.Descent.judged.Given.{Over}
@@ -73,3 +75,20 @@ returns-clause-cost g c =
     c.entry-entry.ensures.value region its.rule its.left_below its.right_below
     (sym c.touches.ensures ∙ c.if-not-touches.false) in
     omega (arith, same, one)
+
+pub returns-then-not-touches-clause-opens : goal.returns-then-not-touches-clause-opens
+returns-then-not-touches-clause-opens g c =
+    rw c.over.ensures.stage (end_stage-rules c.args.rules.now c.args.instant c.args.test.now.region c.over.result.at false _)
+
+pub returns-then-not-is_rule-clause-opens : goal.returns-then-not-is_rule-clause-opens
+returns-then-not-is_rule-clause-opens g c =
+    rw c.over-then-not-is_rule.ensures.stage
+    (end_stage-rules c.args.rules.now c.args.instant c.args.test.now.region c.over-then-not-is_rule.result.at true _)
+
+pub returns-clause-opens : goal.returns-clause-opens
+returns-clause-opens g c =
+    let at = goal.at.returns-clause-opens g c in
+    let its = touching_is g at.After-entry-entry (leb-true _ _ (sym c.is_rule.ensures ∙ c.if-not-is_rule.false)) in
+    rw c.in-Within.is (within-opens c.args.rules.now c.args.self.at c.args.instant c.in-Within.symbol its.within
+    c.entry-entry.result c.entry-entry.ensures.value c.args.test.now.region its.rule its.left_below its.right_below
+    (sym c.touches.ensures ∙ c.if-not-touches.false))

@@ -1,7 +1,8 @@
-use Rattle.std.proofs.Common.{◌≡◌, ap, refl, subst, sym, ◌∙◌, arith}
-use Rattle.step_count.specs.Reads.{ofRule}
+use Rattle.std.proofs.Common.{◌≡◌, IsTrue, ap, refl, subst, sym, ◌∙◌, arith}
+use Rattle.std.specs.Prelude.{◌==◌}
+use Rattle.std.proofs.lemmas.Bool.{eq-eqb, or_right}
 use Rattle.rule_store.specs.Flaws.{left_of, right_of}
-use Rattle.log_cursor.specs.Descent.{IsStage, IsTouching, hit_from, reads_from, stage_turning, stage_weight}
+use Rattle.log_cursor.specs.Descent.{IsStage, IsTouching, hit_from, reads_from, stage_rule, stage_turning, stage_weight}
 use Rattle.log_cursor.proofs.DescentLemmas.{hit-parts, parted}
 use Rattle.log_cursor.proofs.StackLemmas.{own_symbol}
 use Rattle.log_cursor.proofs.descent.Descent.opened.Given.{Over}
@@ -16,7 +17,9 @@ touching_is g c = subst (IsStage c.args.rules.now c.args.self.at c.args.instant)
 pub parts-requires : goal.parts-requires
 parts-requires g c =
     let its = touching_is g (goal.at.parts-requires g c).In-Touching in
-    record { rule = its.rule; within = its.within.known; may = c.requires.may (ofRule c.in-Touching.rule) refl }
+    let symbol = c.in-Touching.rule in
+    let next : IsTrue (stage_rule c.args.self.stage symbol) = rw c.in-Touching.is (eq-eqb symbol symbol refl) in
+    record { rule = its.rule; within = its.within.known; may = c.requires.may symbol next }
 
 -- the parts that were read
 both : (g : Over) (c : After-parts g) →
@@ -57,3 +60,8 @@ returns-clause-cost g c region =
     let two = both g (goal.at.returns-clause-cost g c).After-parts in
     let same = ap (reads_from c.args.rules.now c.args.instant region c.args.self.at) c.in-Touching.is in
     rw (two.0, two.1) (omega (arith, same, c.parts.ensures.cost))
+
+pub returns-clause-opens : goal.returns-clause-opens
+returns-clause-opens g c region =
+    let two = both g (goal.at.returns-clause-opens g c).After-parts in
+    rw (two.0, two.1, c.in-Touching.is) (λ other is. or_right (c.in-Touching.rule == other) _ is)

@@ -1,7 +1,7 @@
 use Rattle.std.proofs.Common.{ap, subst, sym, ◌∙◌, inl, inr, arith}
 use Rattle.std.proofs.lemmas.Int.{ints}
 use Rattle.log_cursor.specs.Descent.{IsParted, IsStage, hit_from, reads_from, stage_parted, stage_weight}
-use Rattle.log_cursor.proofs.DescentLemmas.{IsPicked, parted-middle, picked-by, picked-count, picked-hit, picked-within}
+use Rattle.log_cursor.proofs.DescentLemmas.{IsPicked, parted-middle, picked-by, picked-count, picked-hit, picked-opens, picked-within}
 use Rattle.log_cursor.proofs.StopLemmas.{word}
 use Rattle.log_cursor.proofs.descent.Descent.turned.Goals as goal
 use Rattle.log_cursor.proofs.descent.Descent.turned.Goals.{After-entry, After-pick}
@@ -50,3 +50,9 @@ returns-clause-cost c region =
     (parted_is (goal.at.returns-clause-cost c).After-entry) c.entry.result c.entry.ensures.value c.after-middle.result
     c.after-middle.ensures region c.pick_start.result c.pick.result (picked c) in
     omega (arith, same, less)
+
+pub returns-clause-opens : goal.returns-clause-opens
+returns-clause-opens c region =
+    rw c.in-Parted.is (picked-opens c.args.rules.now c.args.self.at c.args.instant c.in-Parted.left c.in-Parted.right
+    (parted_is (goal.at.returns-clause-opens c).After-entry) c.entry.result c.entry.ensures.value c.after-middle.result
+    c.after-middle.ensures region c.pick_start.result c.pick.result (picked c))

@@ -1,11 +1,13 @@
-use Rattle.std.proofs.Common.{◌≡◌, ◌+◌, ◌≤◌, [], None, Some, refl, subst, sym, ◌∙◌, arith}
+use Rattle.std.proofs.Common.{◌≡◌, ◌+◌, ◌≤◌, [], IsTrue, None, Some, refl, subst, sym, ◌∙◌, arith}
 use Rattle.std.specs.Option.{IfSome, option_to_list}
 use Rattle.std.proofs.lemmas.Int.{ints}
 use Rattle.track_types.specs.Near.{IsCellAsked}
 use Rattle.track_types.specs.declared.stop.Stop.{Stop}
+use Rattle.rule_store.specs.Needs.{log_needs}
 use Rattle.rule_store.proofs.NodeLemmas.{opened_count-none}
 use Rattle.log_cursor.specs.Touching.{IsDrawnIn, first_among, start_of}
 use Rattle.log_cursor.specs.Walk.{WalkView, opened_left, stops_left}
+use Rattle.log_cursor.proofs.NeedsLemmas.{search-log}
 use Rattle.log_cursor.proofs.SearchLemmas.{IsDrawnIn-after, IsDrawnIn-none}
 use Rattle.log_cursor.proofs.StopLemmas.{word}
 use Rattle.log_cursor.proofs.WalkLemmas.{stops_left-end}
@@ -38,6 +40,11 @@ holds-requires g c =
         y = record { low = omega (arith, ints, asked.y.low); high = omega (arith, ints, asked.y.high) };
       };
     }
+
+pub hit_after-found-requires-clause-may : goal.hit_after-found-requires-clause-may
+hit_after-found-requires-clause-may g c = λ read needed.
+    c.requires.may read (subst (λ (w : WalkView). IsTrue (log_needs w.places read)) c.self.view_is
+    (search-log c.self.inside.pending.places _ read needed))
 
 pub invariant_of-self-in_default-found : goal.invariant_of-self-in_default-found
 invariant_of-self-in_default-found g c =

@@ -1,8 +1,10 @@
 use Rattle.std.proofs.lemmas.Grind.{common_steps}
-use Rattle.std.proofs.Common.{◌≡◌, ◌+◌, ◌≤ℤ◌, ◌<ℤ◌, [], true, not, to_z, of_z, w64, None, refl, subst, sym, ap, ◌∙◌, arith, rules}
+use Rattle.std.proofs.Common.{◌≡◌, ◌+◌, ◌≤ℤ◌, ◌<ℤ◌, ℕ, [], true, IsTrue, not, to_z, of_z, w64, None, refl, subst, sym, ap, ◌∙◌, arith, rules}
 use Rattle.std.specs.Option.{is_some}
 use Rattle.std.proofs.lemmas.Bool.{leb-false, leb-true}
 use Rattle.std.proofs.lemmas.Int.{ints}
+use Rattle.step_count.specs.Reads.{ofRule, ofSymbol}
+use Rattle.rule_store.specs.Needs.{is_among}
 use Rattle.rule_store.proofs.NeedsLemmas.{log_needs-same}
 use Rattle.log_cursor.specs.Turn.{IsWalking, has_hull, is_any}
 use Rattle.log_cursor.specs.Walk.{WalkView, walk_of}
@@ -206,7 +208,10 @@ pub invariant_of-self-in-loop-self : goal.invariant_of-self-in-loop-self
 invariant_of-self-in-loop-self g c = grind (arith, common_steps)
 
 pub next-requires : goal.next-requires
-next-requires g c = search rules
+next-requires g c = record {
+  may = λ place is. c.requires.may (ofSymbol place)
+      (subst (λ (p : ℕ × ℕ). IsTrue (is_among p place)) c.loop-self.invariant.places is);
+}
 
 pub invariant_of-self-in_err-entry : goal.invariant_of-self-in_err-entry
 invariant_of-self-in_err-entry g c = grind (arith, common_steps)
@@ -221,7 +226,7 @@ pub open-requires-clause-roomy : goal.open-requires-clause-roomy
 open-requires-clause-roomy g c = grind (arith, common_steps)
 
 pub open-requires-clause-may : goal.open-requires-clause-may
-open-requires-clause-may g c = search rules
+open-requires-clause-may g c = c.requires.may (ofRule c.in_ok-entry.entry.symbol) refl
 
 pub returns-in-loop-self-clause-rules : goal.returns-in-loop-self-clause-rules
 returns-in-loop-self-clause-rules g c = grind (arith, common_steps)
