@@ -9,10 +9,12 @@ use Rattle.track_types.specs.declared.stop.Stop.{Stop}
 use Rattle.rule_store.specs.View.{RulesView}
 use Rattle.log_cursor.specs.Descent.{first_needed}
 use Rattle.log_cursor.specs.Start.{start_at}
-use Rattle.log_cursor.specs.Touching.{first_hit_of, touching_count}
+use Rattle.log_cursor.specs.Needs.{RulesWithin}
+use Rattle.log_cursor.specs.Touching.{first_hit_of, touching_count, touching_rule}
 use Rattle.log_cursor.specs.declared.start.Start.{Start}
 use Rattle.snapshots.specs.Parts.{anchored_at, log_in, rules_in}
 use Rattle.snapshots.specs.declared.anchored.Anchored.{Anchored}
+use Rattle.slice_search.specs.Needs.{block_rule}
 use Rattle.slice_search.specs.Seekers.{first_in}
 use Rattle.slice_search.specs.Sightings.{seen_at, sighting_in}
 use Rattle.slice_search.specs.Sought.{first_stop_in, log_reads}
@@ -32,6 +34,10 @@ module _ (parts : Parts) (number : ℕ) (from to low high : ℤ) (is_from : low 
       let short : length (log_in parts block) ≤ block.len =
       omega (arith, length-take (block.from + block.len - block.from) (drop block.from symbols)) in
       rw (of, its_log, its_start, is_from, is_to) (omega (arith, short))
+
+  pub touching_rule-found : RulesWithin (touching_rule rules start log low high region)
+      (block_rule parts number from to region block)
+  touching_rule-found = rw (of, its_log, its_start, is_from, is_to) (λ rule touches. touches)
 
 -- a block's first stop is its sighting
 pub sighting_in-is : (parts : Parts) (number : ℕ) (from to : ℤ) (region : Region) (block : Anchored) (found : Option Stop)

@@ -1,6 +1,7 @@
 -- Boxes within reach, and sightings.
 mod ReachLemmas
 pub mod SoughtLemmas
+pub mod NeedsLemmas
 mod SightingLemmas
 mod SliceLemmas
 mod HitLemmas

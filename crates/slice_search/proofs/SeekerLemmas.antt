@@ -10,28 +10,39 @@ use Rattle.list_laws.proofs.OptionLemmas.{append-option}
 use Rattle.track_types.specs.declared.region.Region.{Region}
 use Rattle.track_types.specs.declared.sighting.Sighting.{Sighting}
 use Rattle.rule_store.specs.View.{RulesView}
-use Rattle.slice_search.specs.Seekers.{AreTurned, IsSeeker, rest_in, seen_by}
+use Rattle.log_cursor.specs.Descent.{rules_of}
+use Rattle.log_cursor.specs.Needs.{RulesWithin}
+use Rattle.slice_search.specs.Seekers.{AreTurned, IsSeeker, OpensWithin, rest_in, seen_by}
 use Rattle.slice_search.specs.declared.seekers.Seeker.{Seeker}
 
 module _ (rules : RulesView) (instant : ℤ) (region : Region) where
   -- nothing went on yet
   pub turned-first : (seekers : List Seeker) → All (IsSeeker rules instant) seekers →
       AreTurned rules instant region seekers seekers
-  turned-first seekers are = record { sound = are; seen = refl }
+  turned-first seekers are = record { sound = are; seen = refl; opens = λ may all. all }
 
   -- one goes on
-  pub turned-next : (before now : List Seeker) (i : ℕ) (next d : Seeker) → AreTurned rules instant region before now →
-      IsSeeker rules instant next → seen_by rules instant region next ≡ seen_by rules instant region (get_or now i d) →
+  pub turned-next : (before now : List Seeker) (i : ℕ) (next d : Seeker) → i < length now →
+      AreTurned rules instant region before now → IsSeeker rules instant next →
+      seen_by rules instant region next ≡ seen_by rules instant region (get_or now i d) →
+      RulesWithin (rules_of rules instant region next.descent) (rules_of rules instant region (get_or now i d).descent) →
       AreTurned rules instant region before (set now i next)
-  turned-next before now i next d turned is same = record {
+  turned-next before now i next d within turned is same fewer = record {
     sound = All-set (IsSeeker rules instant) now i next is turned.sound;
     seen = map-set_same (seen_by rules instant region) now i next d same ∙ turned.seen;
+    opens = λ may all. (
+        let own = turned.opens may all in
+        All-set (OpensWithin rules instant region may) now i next (λ rule is. own i d within rule (fewer rule is)) own);
   }
 
   -- and then all of them
   pub turned-again : (before now later : List Seeker) → AreTurned rules instant region before now →
       AreTurned rules instant region now later → AreTurned rules instant region before later
-  turned-again before now later turned more = record { sound = more.sound; seen = more.seen ∙ turned.seen }
+  turned-again before now later turned more = record {
+    sound = more.sound;
+    seen = more.seen ∙ turned.seen;
+    opens = λ may all. more.opens may (turned.opens may all);
+  }
 
 -- what is written back in the place of searches
 pub refill-same : (xs ws : List Seeker) → length ws ≡ length xs → refill (length xs) xs ws ≡ ws

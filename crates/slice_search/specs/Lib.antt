@@ -1,6 +1,7 @@
 -- In reading order.
 pub mod Cost
 pub mod Sought
+pub mod Needs
 pub mod Sightings
 pub mod Seekers
 pub mod Live

@@ -3,9 +3,9 @@ ghost use Rattle.step_count.specs.Reads.{ReadsWithin};
 ghost use Rattle.track_types.specs.ByFilter.{sightings_of};
 ghost use Rattle.track_types.specs.Near.{IsAsked};
 ghost use Rattle.track_types.specs.Region.{IsRegionAsked};
-ghost use Rattle.snapshots.specs.Needs.{needs_at};
 ghost use Rattle.snapshots.specs.Parts.{chart_in};
 ghost use Rattle.slice_search.specs.Cost.{slice_cost};
+ghost use Rattle.slice_search.specs.Needs.{slice_needs};
 
 use crate::sightings::sightings;
 use crate::sought::Sought;
@@ -29,7 +29,7 @@ pub fn slice<L: Reads>(
 ) -> Result<Vec<Sighting>, Memory>
     requires instant { IsAsked instant }
     requires region { IsRegionAsked test.now.region }
-    requires may { ReadsWithin (needs_at stores.now instant) L.may }
+    requires may { ReadsWithin (slice_needs stores.now instant test.now.region) L.may }
     ensures ok { IfOk result (λ found.
         found.items ≡ sightings_of (chart_in stores.now).rows instant test.now.region) }
     ensures cost { steps.new ≤ steps.old + slice_cost stores.now instant test.now.region }

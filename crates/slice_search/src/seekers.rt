@@ -1,14 +1,13 @@
 ghost use Rattle.std.specs.Prelude.{◌≡◌, ◌+◌, ◌<◌, ◌≤◌, ℤ, length, All};
-ghost use Rattle.step_count.specs.Reads.{ReadsWithin};
+ghost use Rattle.step_count.specs.Reads.{ofRule, ReadsWithin};
 ghost use Rattle.std.specs.List.{sum_by};
 ghost use Rattle.track_types.specs.declared.region.Region.{Region};
-ghost use Rattle.rule_store.specs.Needs.{log_needs, rule_needs};
 ghost use Rattle.rule_store.specs.View.{RulesView};
 ghost use Rattle.log_cursor.specs.Descent.{first_reads, rest_of};
-ghost use Rattle.snapshots.specs.Needs.{log_places};
 ghost use Rattle.snapshots.specs.Parts.{rules_in, snapshot_in};
 ghost use Rattle.snapshots.specs.Sound.{IsBlock};
 ghost use Rattle.slice_search.specs.Live.{first_of, AreLive};
+ghost use Rattle.slice_search.specs.Needs.{period_needs, period_rule};
 ghost use Rattle.slice_search.specs.Seekers.{
   first_in,
   parted_in,
@@ -19,6 +18,8 @@ ghost use Rattle.slice_search.specs.Seekers.{
   weight_in,
   AreTurned,
   IsSeeker,
+  OpensNext,
+  OpensWithin,
 };
 ghost use Rattle.slice_search.specs.Sightings.{sighting_in};
 ghost use Rattle.slice_search.specs.Sought.{log_reads};
@@ -50,8 +51,8 @@ impl Seeker {
         steps: &mut Steps<L>,
     ) -> Option<u32>
         requires block { IsBlock (snapshot_in sought.now.stores.now sought.now.period) block.now }
-        requires may { ReadsWithin (log_needs (log_places (snapshot_in sought.now.stores.now sought.now.period)))
-            L.may }
+        requires may { ReadsWithin (period_needs sought.now.stores.now sought.now.period sought.now.from
+            sought.now.from sought.now.test.now.region) L.may }
         ensures value { result ≡ first_in sought.now.stores.now sought.now.period sought.now.from
             block.now }
         ensures cost { steps.new ≡ steps.old + first_reads result }
@@ -71,8 +72,8 @@ impl Seeker {
         requires block { IsBlock (snapshot_in sought.now.stores.now sought.now.period) block.now }
         requires first { first ≡ first_in sought.now.stores.now sought.now.period sought.now.from
             block.now }
-        requires may { ReadsWithin (log_needs (log_places (snapshot_in sought.now.stores.now sought.now.period)))
-            L.may }
+        requires may { ReadsWithin (period_needs sought.now.stores.now sought.now.period sought.now.from
+            sought.now.from sought.now.test.now.region) L.may }
         ensures sound { IsSeeker (rules_in sought.now.stores.now) sought.now.from result }
         ensures seen { seen_by (rules_in sought.now.stores.now) sought.now.from
             sought.now.test.now.region result ≡ sighting_in sought.now.stores.now
@@ -81,6 +82,9 @@ impl Seeker {
             sought.now.from sought.now.test.now.region result) ≤ steps.old + log_reads
             sought.now.stores.now sought.now.period sought.now.from sought.now.from
             sought.now.test.now.region block.now }
+        ensures opens { OpensWithin (rules_in sought.now.stores.now) sought.now.from
+            sought.now.test.now.region (period_rule sought.now.stores.now sought.now.period
+            sought.now.from sought.now.from sought.now.test.now.region) result }
     {
         let _ = sought.stores.frame(); // says what holds of every index
         let Placed { log, start } = Placed::new(sought.stores, sought.period, block);
@@ -115,7 +119,8 @@ pub(crate) fn search_all<L: Reads>(
 )
     requires few { length seekers.old ≤ 16 }
     requires sound { All (IsSeeker rules.now instant) seekers.old }
-    requires may { ReadsWithin rule_needs L.may }
+    requires may { All (OpensWithin rules.now instant test.now.region (λ rule. L.may (ofRule rule)))
+        seekers.old }
     ensures turned { AreTurned rules.now instant test.now.region seekers.old seekers.new }
     ensures over { sum_by rest_in seekers.new ≡ 0 }
     ensures cost { steps.new ≤ steps.old
@@ -176,7 +181,7 @@ fn open_all<L: Reads>(
     requires few { count ≤ 16 }
     requires live { AreLive live.now count seekers.old }
     requires sound { All (IsSeeker rules.now instant) seekers.old }
-    requires may { ReadsWithin rule_needs L.may }
+    requires may { All (OpensNext (λ rule. L.may (ofRule rule))) seekers.old }
     ensures turned { (region : Region) → AreTurned rules.now instant region seekers.old seekers.new }
     ensures live { AreLive live.now count seekers.new }
     ensures first { 0 < count → turning_in (first_of live.now seekers.old)

@@ -1,14 +1,14 @@
 ghost use Rattle.std.specs.Prelude.{◌≡◌, ◌+◌, ◌++◌, ◌≤◌, ℤ, [], length, map, option_to_list, vec_capacity, All, IfOk, OnOk};
-ghost use Rattle.step_count.specs.Reads.{ReadsWithin};
+ghost use Rattle.step_count.specs.Reads.{ofRule, ReadsWithin};
 ghost use Rattle.std.specs.List.{filter_map, sum_by};
 ghost use Rattle.track_types.specs.declared.region.Region.{Region};
-ghost use Rattle.rule_store.specs.Needs.{log_needs, rule_needs};
 ghost use Rattle.rule_store.specs.View.{RulesView};
-ghost use Rattle.snapshots.specs.Needs.{log_places};
 ghost use Rattle.snapshots.specs.Parts.{rules_in, snapshot_in};
 ghost use Rattle.snapshots.specs.Sound.{IsBlock};
+ghost use Rattle.slice_search.specs.Needs.{period_needs, period_rule};
 ghost use Rattle.slice_search.specs.Sightings.{sighting_in};
-ghost use Rattle.slice_search.specs.Seekers.{first_in, first_reads_in, reads_in, rest_in, seen_by, IsSeeker};
+ghost use Rattle.slice_search.specs.Seekers.{first_in, first_reads_in, reads_in, rest_in, seen_by};
+ghost use Rattle.slice_search.specs.Seekers.{IsSeeker, OpensWithin};
 ghost use Rattle.slice_search.specs.Sought.{log_reads};
 
 use crate::seekers::{GROUP, Seeker, search_all};
@@ -29,8 +29,8 @@ pub fn sightings<W: Lazy<Item = Anchored>, L: Reads>(
     requires blocks { All (IsBlock (snapshot_in sought.now.stores.now sought.now.period))
         (W.left blocks.old) }
     requires may { ReadsWithin (W.needs blocks.old) L.may }
-    requires logs { ReadsWithin (log_needs (log_places (snapshot_in sought.now.stores.now sought.now.period)))
-        L.may }
+    requires logs { ReadsWithin (period_needs sought.now.stores.now sought.now.period sought.now.from
+        sought.now.from sought.now.test.now.region) L.may }
     ensures ok { IfOk result (λ found. found.items ≡ filter_map (sighting_in sought.now.stores.now
         sought.now.period sought.now.from sought.now.from sought.now.test.now.region)
         (W.left blocks.old)) }
@@ -63,8 +63,8 @@ fn push_group<L: Reads>(
     requires none { seekers.old.items ≡ [] }
     requires blocks { All (IsBlock (snapshot_in sought.now.stores.now sought.now.period))
         group.old.items }
-    requires may { ReadsWithin (log_needs (log_places (snapshot_in sought.now.stores.now sought.now.period)))
-        L.may }
+    requires may { ReadsWithin (period_needs sought.now.stores.now sought.now.period sought.now.from
+        sought.now.from sought.now.test.now.region) L.may }
     ensures found { OnOk result (found.new.items ≡ found.old.items ++ filter_map (sighting_in
         sought.now.stores.now sought.now.period sought.now.from sought.now.from
         sought.now.test.now.region) group.old.items) }
@@ -93,8 +93,8 @@ fn begin_all<L: Reads>(
     requires none { seekers.old.items ≡ [] }
     requires blocks { All (IsBlock (snapshot_in sought.now.stores.now sought.now.period))
         group.now }
-    requires may { ReadsWithin (log_needs (log_places (snapshot_in sought.now.stores.now sought.now.period)))
-        L.may }
+    requires may { ReadsWithin (period_needs sought.now.stores.now sought.now.period sought.now.from
+        sought.now.from sought.now.test.now.region) L.may }
     ensures sound { All (IsSeeker (rules_in sought.now.stores.now) sought.now.from)
         seekers.new.items }
     ensures seen { filter_map (seen_by (rules_in sought.now.stores.now) sought.now.from
@@ -105,6 +105,9 @@ fn begin_all<L: Reads>(
         sought.now.test.now.region) seekers.new.items ≤ steps.old + sum_by (log_reads
         sought.now.stores.now sought.now.period sought.now.from sought.now.from
         sought.now.test.now.region) group.now }
+    ensures opens { All (OpensWithin (rules_in sought.now.stores.now) sought.now.from
+        sought.now.test.now.region (period_rule sought.now.stores.now sought.now.period
+        sought.now.from sought.now.from sought.now.test.now.region)) seekers.new.items }
 {
     let firsts = first_symbols(sought, group, steps);
     begin_each(sought, group, firsts.as_slice(), seekers, steps);
@@ -119,8 +122,8 @@ fn first_symbols<L: Reads>(
     requires few { length group.now ≤ 16 }
     requires blocks { All (IsBlock (snapshot_in sought.now.stores.now sought.now.period))
         group.now }
-    requires may { ReadsWithin (log_needs (log_places (snapshot_in sought.now.stores.now sought.now.period)))
-        L.may }
+    requires may { ReadsWithin (period_needs sought.now.stores.now sought.now.period sought.now.from
+        sought.now.from sought.now.test.now.region) L.may }
     ensures value { result.items ≡ map (first_in sought.now.stores.now sought.now.period
         sought.now.from) group.now }
     ensures cost { steps.new ≡ steps.old + sum_by (first_reads_in sought.now.stores.now
@@ -147,8 +150,8 @@ fn begin_each<L: Reads>(
         group.now }
     requires firsts { firsts.now ≡ map (first_in sought.now.stores.now sought.now.period
         sought.now.from) group.now }
-    requires may { ReadsWithin (log_needs (log_places (snapshot_in sought.now.stores.now sought.now.period)))
-        L.may }
+    requires may { ReadsWithin (period_needs sought.now.stores.now sought.now.period sought.now.from
+        sought.now.from sought.now.test.now.region) L.may }
     ensures sound { All (IsSeeker (rules_in sought.now.stores.now) sought.now.from)
         seekers.new.items }
     ensures seen { filter_map (seen_by (rules_in sought.now.stores.now) sought.now.from
@@ -160,6 +163,9 @@ fn begin_each<L: Reads>(
         sought.now.from sought.now.test.now.region) seekers.new.items) ≤ steps.old + sum_by
         (log_reads sought.now.stores.now sought.now.period sought.now.from sought.now.from
         sought.now.test.now.region) group.now }
+    ensures opens { All (OpensWithin (rules_in sought.now.stores.now) sought.now.from
+        sought.now.test.now.region (period_rule sought.now.stores.now sought.now.period
+        sought.now.from sought.now.from sought.now.test.now.region)) seekers.new.items }
 {
     for i in 0..group.len() {
         seekers.push(Seeker::begin(sought, &group[i], firsts[i], steps));
@@ -174,7 +180,8 @@ fn push_seen<L: Reads>(
     steps: &mut Steps<L>,
 ) -> Result<(), Memory>
     requires sound { All (IsSeeker (rules_in sought.now.stores.now) sought.now.from) seekers.old.items }
-    requires may { ReadsWithin rule_needs L.may }
+    requires may { All (OpensWithin (rules_in sought.now.stores.now) sought.now.from
+        sought.now.test.now.region (λ rule. L.may (ofRule rule))) seekers.old.items }
     ensures found { OnOk result (found.new.items ≡ found.old.items ++ filter_map (seen_by
         (rules_in sought.now.stores.now) sought.now.from sought.now.test.now.region)
         seekers.old.items) }

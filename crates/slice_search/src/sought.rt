@@ -3,12 +3,11 @@ ghost use Rattle.step_count.specs.Reads.{is_of_period, ReadsWithin};
 ghost use Rattle.std.specs.List.{sum_by};
 ghost use Rattle.track_types.specs.Frame.{periods_of};
 ghost use Rattle.track_types.specs.Region.{intersects_region};
-ghost use Rattle.rule_store.specs.Needs.{log_needs};
-ghost use Rattle.snapshots.specs.Needs.{log_places};
 ghost use Rattle.snapshots.specs.Parts.{rules_in, snapshot_in};
 ghost use Rattle.snapshots.specs.Sound.{IsBlock};
 ghost use Rattle.snapshots.specs.TrackWalk.{tracks_needs};
 ghost use Rattle.slice_search.specs.Cost.{period_search_cost};
+ghost use Rattle.slice_search.specs.Needs.{period_needs};
 ghost use Rattle.slice_search.specs.Reach.{may_reach};
 ghost use Rattle.slice_search.specs.Sought.{first_stop_in, latest_in, log_reads, AreSought};
 ghost use Rattle.slice_search.specs.Walk.{sought_budget, sought_left};
@@ -73,8 +72,8 @@ impl<'a> Sought<'a> {
     ) -> Option<Stop>
         requires block { IsBlock (snapshot_in self.now.stores.now self.now.period) block.now }
         requires rules { pending.old.rules ≡ rules_in self.now.stores.now }
-        requires may { ReadsWithin (log_needs (log_places (snapshot_in self.now.stores.now self.now.period)))
-            L.may }
+        requires may { ReadsWithin (period_needs self.now.stores.now self.now.period self.now.from
+            self.now.to self.now.test.now.region) L.may }
         ensures value { result ≡ first_stop_in self.now.stores.now self.now.period self.now.from
             self.now.to self.now.test.now.region block.now }
         ensures rules { pending.new.rules ≡ pending.old.rules }

@@ -3,14 +3,15 @@ use Rattle.std.proofs.lemmas.Int.{ints}
 use Rattle.std.proofs.lemmas.List.Sorted.{IsNonDecreasingBy-from_sort_by_key}
 use Rattle.step_count.specs.Reads.{ofPeriod}
 use Rattle.track_types.specs.Frame.{periods_of}
-use Rattle.snapshots.specs.Parts.{period_in, snapshot_in}
+use Rattle.snapshots.specs.Parts.{period_in}
 use Rattle.snapshots.specs.SoundParts.{IsValid}
-use Rattle.snapshots.specs.Needs.{is_found, is_of_logs, log_places}
-use Rattle.snapshots.proofs.NeedsLemmas.{is_found-same, may-log, may-period, within-period}
+use Rattle.snapshots.specs.Needs.{is_found}
+use Rattle.snapshots.proofs.NeedsLemmas.{is_found-same, within-period}
 use Rattle.object_track.proofs.MetLemmas.{period_in-some}
 use Rattle.slice_search.specs.Cost.{period_search_cost, slice_cost}
 use Rattle.slice_search.specs.Sightings.{AreSightings}
 use Rattle.slice_search.specs.Sought.{latest_in}
+use Rattle.slice_search.proofs.NeedsLemmas.{may-search}
 use Rattle.slice_search.proofs.SliceLemmas.{object_of, sightings_of-outside, slice_cost-some, slice-sorted}
 use Rattle.slice_search.proofs.search.slice.Given.{Over}
 use Rattle.slice_search.proofs.search.slice.Goals as goal
@@ -31,10 +32,8 @@ invariant_of-sought g c = record { known = within g (goal.at.invariant_of-sought
 -- which may be read
 allowed : (g : Over) (c : In-Some g) → IsTrue (g.L.Reads.may (ofPeriod c.in-Some.period))
 allowed g c =
-    let parts = c.args.stores.now in
-    let found = period_in parts.frame c.args.instant in
-    may-period g.L.Reads.may parts.frame (is_found found) (is_of_logs parts) c.requires.may c.in-Some.period (within g c)
-    (is_found-same found c.in-Some.period (when g c))
+    c.requires.may (ofPeriod c.in-Some.period)
+    (is_found-same (period_in c.args.stores.now.frame c.args.instant) c.in-Some.period (when g c))
 
 pub sightings-requires-clause-may : goal.sightings-requires-clause-may
 sightings-requires-clause-may g c = λ read needed.
@@ -46,8 +45,10 @@ sightings-requires-clause-logs g c =
     let parts = c.args.stores.now in
     let at = (goal.at.sightings-requires-clause-logs g c).In-Some in
     let found = period_in parts.frame c.args.instant in
-    may-log g.L.Reads.may parts.frame (is_found found) (is_of_logs parts) c.requires.may c.in-Some.period (within g at)
-    (is_found-same found c.in-Some.period (when g at)) (log_places (snapshot_in parts c.in-Some.period)) (λ place is. is)
+    let region = c.args.test.now.region in
+    let same : to_z w64 (of_z w64 c.args.instant) ≡ c.args.instant = omega (arith, ints) in
+    rw same (may-search g.L.Reads.may parts (is_found found) c.args.instant c.args.instant region c.requires.may
+    c.in-Some.period (within g at) (is_found-same found c.in-Some.period (when g at)))
 
 -- the reads of the search in the period
 reads : (g : Over) (c : After-sightings g)

@@ -59,8 +59,8 @@ loop-k-preserved g c =
     let reads = sum_by-set (reads_in rules instant region) now i next blank within in
     record {
       long = length-set live left i ∙ its.long;
-      turned = turned-next rules instant region c.args.seekers.now now i next blank its.turned judged.sound
-          (ap (option_map (seen_at own.object)) judged.hit);
+      turned = turned-next rules instant region c.args.seekers.now now i next blank within its.turned judged.sound
+          (ap (option_map (seen_at own.object)) judged.hit) judged.opens;
       few = omega (arith, its.few, rest.few);
       live = sifted-next live left k c.args.count now next its.few c.loop-k-test.true long (left + c.rest_of-left.result)
           its.live (ap (λ r. left + r) rest.value);

@@ -1,12 +1,14 @@
-use Rattle.std.proofs.Common.{◌≡◌, ◌<◌, ◌≤◌, get_or, length, ap, sym, ◌∙◌, arith}
+use Rattle.std.proofs.Common.{◌≡◌, ℕ, ◌<◌, ◌≤◌, Bool, get_or, length, ap, sym, ◌∙◌, arith}
 use Rattle.std.specs.Prelude.{slice_index}
 use Rattle.std.specs.Option.{option_map}
 use Rattle.std.proofs.lemmas.Int.{ints}
 use Rattle.std.proofs.lemmas.List.Elements.{All-set}
 use Rattle.std.proofs.lemmas.List.Sums.{sum_by-set}
+use Rattle.step_count.specs.Reads.{ofRule}
+use Rattle.log_cursor.proofs.StageLemmas.{next_rule-parted}
 use Rattle.log_cursor.proofs.StopLemmas.{word}
 use Rattle.slice_search.specs.Live.{blank, first_of}
-use Rattle.slice_search.specs.Seekers.{IsSeeker, parted_in, reads_in, turning_in, weight_in}
+use Rattle.slice_search.specs.Seekers.{IsSeeker, OpensNext, parted_in, reads_in, turning_in, weight_in}
 use Rattle.slice_search.specs.Sightings.{seen_at}
 use Rattle.slice_search.specs.declared.seekers.Seeker.{Seeker}
 use Rattle.slice_search.proofs.LiveLemmas.{first-set, later-place, live-set}
@@ -24,6 +26,11 @@ opened-requires-clause-sound g c =
     c.loop-k.invariant.sound (slice_index c.args.live.now c.loop-k.k) blank
     (c.loop-k.invariant.live.below c.loop-k.k c.loop-k-test.true)
 
+pub opened-requires-clause-may : goal.opened-requires-clause-may
+opened-requires-clause-may g c =
+    c.loop-k.invariant.next (slice_index c.args.live.now c.loop-k.k) blank
+    (c.loop-k.invariant.live.below c.loop-k.k c.loop-k-test.true)
+
 pub loop-k-preserved : goal.loop-k-preserved
 loop-k-preserved g c =
     let rules = c.args.rules.now in
@@ -39,11 +46,13 @@ loop-k-preserved g c =
     let within : i < length now = its.live.below k c.loop-k-test.true in
     let weights = sum_by-set weight_in now i next blank within in
     let before = turning_in (first_of live c.args.seekers.now) in
+    let may : ℕ → Bool = λ rule. g.L.Reads.may (ofRule rule) in
     record {
       long = its.long;
       sound = All-set (IsSeeker rules instant) now i next opened.sound its.sound;
-      turned = λ region. turned-next rules instant region c.args.seekers.now now i next blank (its.turned region)
-          opened.sound (ap (option_map (seen_at own.object)) (opened.hit region));
+      next = All-set (OpensNext may) now i next (next_rule-parted next.descent.stage opened.opened may) its.next;
+      turned = λ region. turned-next rules instant region c.args.seekers.now now i next blank within (its.turned region)
+          opened.sound (ap (option_map (seen_at own.object)) (opened.hit region)) (opened.opens region);
       live = live-set live c.args.count k now next its.live c.loop-k-test.true;
       turning = first-set (λ s. turning_in s ≡ before) live now i next within
           (λ same. opened.turn ∙ sym (ap (λ p. turning_in (get_or now p blank)) same) ∙ its.turning)

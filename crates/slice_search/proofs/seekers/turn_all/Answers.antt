@@ -45,8 +45,8 @@ loop-k-preserved c =
     record {
       long = its.long;
       sound = All-set (IsSeeker rules instant) now i next turned.sound its.sound;
-      turned = λ region. turned-next rules instant region old now i next blank (its.turned region)
-          turned.sound (ap (option_map (seen_at own.object)) (turned.hit region));
+      turned = λ region. turned-next rules instant region old now i next blank within (its.turned region)
+          turned.sound (ap (option_map (seen_at own.object)) (turned.hit region)) (turned.opens region);
       live = live-set live c.args.count k now next its.live c.loop-k-test.true;
       parted = λ some. first-set (λ s. parted_in s ≡ 0) live now i next within
           (λ same. turned.turn)

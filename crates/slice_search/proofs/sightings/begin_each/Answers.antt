@@ -6,7 +6,8 @@ use Rattle.std.proofs.lemmas.List.Sums.{sum_by_more, sum_by_push}
 use Rattle.log_cursor.specs.Descent.{first_reads}
 use Rattle.snapshots.specs.Parts.{rules_in}
 use Rattle.snapshots.specs.declared.anchored.Anchored.{Anchored}
-use Rattle.slice_search.specs.Seekers.{first_in, first_reads_in, reads_in, seen_by, IsSeeker}
+use Rattle.slice_search.specs.Needs.{period_rule}
+use Rattle.slice_search.specs.Seekers.{first_in, first_reads_in, reads_in, seen_by, IsSeeker, OpensWithin}
 use Rattle.slice_search.specs.Sightings.{sighting_in}
 use Rattle.slice_search.specs.Sought.{log_reads}
 use Rattle.slice_search.proofs.HitLemmas.{first_in-at, no_block}
@@ -33,6 +34,8 @@ loop-i-preserved g c =
     let parts = sought.stores.now in
     let region = sought.test.now.region in
     let are = IsSeeker (rules_in parts) sought.from in
+    let opens = OpensWithin (rules_in parts) sought.from region
+    (period_rule parts sought.period sought.from sought.from region) in
     let seen = seen_by (rules_in parts) sought.from region in
     let own = reads_in (rules_in parts) sought.from region in
     let sighting = sighting_in parts sought.period sought.from sought.from region in
@@ -51,6 +54,8 @@ loop-i-preserved g c =
       count = omega (arith, c.push.ensures.len, its.count, ap length c.push.ensures.items);
       sound = rw c.push.ensures.items
           (All-append are seekers (seeker ∷ []) its.sound (All-cons are seeker [] c.begin.ensures.sound (All-nil are)));
+      opens = rw c.push.ensures.items
+          (All-append opens seekers (seeker ∷ []) its.opens (All-cons opens seeker [] c.begin.ensures.opens (All-nil opens)));
       seen = ap (filter_map seen) c.push.ensures.items ∙ filter_map-append seen seekers (seeker ∷ [])
           ∙ ap (λ xs. xs ++ filter_map seen (seeker ∷ [])) its.seen
           ∙ ap (λ s. filter_map sighting first ++ cons_option s []) c.begin.ensures.seen

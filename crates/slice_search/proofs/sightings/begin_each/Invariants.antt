@@ -1,7 +1,8 @@
 use Rattle.std.proofs.Common.{◌≡◌, ◌+◌, ◌≤◌, All, length, take}
 use Rattle.std.specs.List.{filter_map, sum_by}
 use Rattle.snapshots.specs.Parts.{rules_in}
-use Rattle.slice_search.specs.Seekers.{first_reads_in, reads_in, seen_by, IsSeeker}
+use Rattle.slice_search.specs.Needs.{period_rule}
+use Rattle.slice_search.specs.Seekers.{first_reads_in, reads_in, seen_by, IsSeeker, OpensWithin}
 use Rattle.slice_search.specs.Sightings.{sighting_in}
 use Rattle.slice_search.specs.Sought.{log_reads}
 use Rattle.slice_search.proofs.sightings.begin_each.Given as goal
@@ -15,6 +16,8 @@ invariant-loop-i g l =
     record {
       count : length l.seekers.items ≡ l.i;
       sound : All (IsSeeker (rules_in parts) instant) l.seekers.items;
+      opens : All (OpensWithin (rules_in parts) instant region (period_rule parts number instant instant region))
+          l.seekers.items;
       seen : filter_map (seen_by (rules_in parts) instant region) l.seekers.items
           ≡ filter_map (sighting_in parts number instant instant region) (take l.i l.group);
       reads : l.steps + (sum_by (first_reads_in parts number instant) (take l.i l.group)

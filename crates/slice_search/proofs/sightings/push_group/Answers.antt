@@ -1,9 +1,6 @@
-use Rattle.rule_store.proofs.NeedsLemmas.{within-rules}
-use Rattle.snapshots.specs.Needs.{log_places}
-use Rattle.snapshots.specs.Parts.{snapshot_in}
+use Rattle.step_count.specs.Reads.{ofRule}
 use Rattle.slice_search.proofs.sightings.push_group.Goals as goal
 
 pub push_seen-requires-clause-may : goal.push_seen-requires-clause-may
-push_seen-requires-clause-may g c =
-    let sought = c.args.sought.now in
-    within-rules g.L.Reads.may (log_places (snapshot_in sought.stores.now sought.period)) c.requires.may
+push_seen-requires-clause-may g c = λ k d below rule is.
+    c.requires.may (ofRule rule) (c.begin_all.ensures.opens k d below rule is)

@@ -9,9 +9,10 @@ use Rattle.log_cursor.specs.Descent.{hit_of}
 use Rattle.slice_search.specs.Sightings.{seen_at}
 use Rattle.std.specs.Option.{option_map}
 use Rattle.log_cursor.proofs.StopLemmas.{word}
-use Rattle.slice_search.proofs.HitLemmas.{first_in-found, first_stop-found, log_reads-found, sighting_in-is}
+use Rattle.slice_search.specs.Needs.{period_rule}
+use Rattle.slice_search.proofs.HitLemmas.{first_in-found, first_stop-found, log_reads-found, sighting_in-is, touching_rule-found}
+use Rattle.slice_search.proofs.NeedsLemmas.{block_rule-within, symbols-within}
 use Rattle.rule_store.specs.Needs.{places_of}
-use Rattle.snapshots.proofs.NeedsLemmas.{within-block}
 use Rattle.slice_search.proofs.seekers.Seeker.begin.Goals as goal
 
 pub object_at-requires : goal.object_at-requires
@@ -60,5 +61,21 @@ returns-clause-cost g c =
 pub begin-requires-clause-may : goal.begin-requires-clause-may
 begin-requires-clause-may g c =
     let sought = c.args.sought.now in
-    within-block g.L.Reads.may (snapshot_in sought.stores.now sought.period) c.args.block.now (places_of c.new.result.log)
-    c.requires.block c.new.ensures.places c.requires.may
+    let view = snapshot_in sought.stores.now sought.period in
+    λ read needed. c.requires.may read (symbols-within view c.args.block.now c.requires.block (places_of c.new.result.log)
+    c.new.ensures.places (period_rule sought.stores.now sought.period sought.from sought.from sought.test.now.region) read needed)
+
+pub returns-clause-opens : goal.returns-clause-opens
+returns-clause-opens g c =
+    let sought = c.args.sought.now in
+    let parts = sought.stores.now in
+    let region = sought.test.now.region in
+    let valid : IsValid parts = record { shaped = c.frame.ensures.shaped; sound = c.frame.ensures.sound } in
+    let placed = c.new.ensures in
+    let kept : word sought.from ≡ sought.from = omega (arith, ints) in
+    let opens = rw (placed.rules, kept) at c.begin.ensures.opens in
+    let found = rw placed.rules at (touching_rule-found parts sought.period sought.from sought.from sought.from sought.from
+    refl refl region c.args.block.now c.new.result.log.rules.now (log_of c.new.result.log) c.new.result.start
+    placed.rules placed.log placed.start) in
+    λ rule is. block_rule-within parts valid sought.period sought.known sought.from sought.from region c.args.block.now
+    c.requires.block rule (found rule (opens rule is))

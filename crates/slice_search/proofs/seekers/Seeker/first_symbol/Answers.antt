@@ -5,7 +5,8 @@ use Rattle.log_cursor.proofs.StopLemmas.{word}
 use Rattle.slice_search.proofs.HitLemmas.{first_in-found}
 use Rattle.rule_store.specs.Needs.{places_of}
 use Rattle.snapshots.specs.Parts.{snapshot_in}
-use Rattle.snapshots.proofs.NeedsLemmas.{within-block}
+use Rattle.slice_search.specs.Needs.{period_rule}
+use Rattle.slice_search.proofs.NeedsLemmas.{symbols-within}
 use Rattle.slice_search.proofs.seekers.Seeker.first_symbol.Goals as goal
 
 pub returns-clause-value : goal.returns-clause-value
@@ -20,7 +21,9 @@ returns-clause-value g c =
 pub first_symbol-requires : goal.first_symbol-requires
 first_symbol-requires g c =
     let sought = c.args.sought.now in
+    let view = snapshot_in sought.stores.now sought.period in
     record {
-      may = within-block g.L.Reads.may (snapshot_in sought.stores.now sought.period) c.args.block.now
-          (places_of c.new-placed.result.log) c.requires.block c.new-placed.ensures.places c.requires.may;
+      may = λ read needed. c.requires.may read (symbols-within view c.args.block.now c.requires.block
+          (places_of c.new-placed.result.log) c.new-placed.ensures.places
+          (period_rule sought.stores.now sought.period sought.from sought.from sought.test.now.region) read needed);
     }

@@ -3,10 +3,11 @@ use Rattle.std.proofs.lemmas.Int.{ints}
 use Rattle.snapshots.specs.SoundParts.{IsValid}
 use Rattle.object_track.proofs.BlockLemmas.{block-known}
 use Rattle.rule_store.specs.Log.{log_of}
-use Rattle.slice_search.proofs.HitLemmas.{first_stop-found, log_reads-found}
+use Rattle.slice_search.specs.Needs.{period_rule}
+use Rattle.slice_search.proofs.HitLemmas.{first_stop-found, log_reads-found, touching_rule-found}
+use Rattle.slice_search.proofs.NeedsLemmas.{block-within, block_rule-within}
 use Rattle.rule_store.specs.Needs.{places_of}
 use Rattle.snapshots.specs.Parts.{snapshot_in}
-use Rattle.snapshots.proofs.NeedsLemmas.{within-block}
 use Rattle.slice_search.proofs.sought.Sought.first_stop.Goals as goal
 
 pub returns-clause-value : goal.returns-clause-value
@@ -43,5 +44,17 @@ first_hit_with-requires-clause-rules g c = c.new-placed.ensures.rules ∙ sym c.
 pub first_hit_with-requires-clause-may : goal.first_hit_with-requires-clause-may
 first_hit_with-requires-clause-may g c =
     let self = c.args.self.now in
-    within-block g.L.Reads.may (snapshot_in self.stores.now self.period) c.args.block.now
-    (places_of c.new-placed.result.log) c.requires.block c.new-placed.ensures.places c.requires.may
+    let valid : IsValid self.stores.now = record { shaped = c.frame.ensures.shaped; sound = c.frame.ensures.sound } in
+    let view = snapshot_in self.stores.now self.period in
+    let region = self.test.now.region in
+    let block = c.args.block.now in
+    let placed = c.new-placed.ensures in
+    let log = c.new-placed.result.log in
+    let low : to_z w64 (of_z w64 self.from) ≡ self.from = omega (arith, ints) in
+    let high : to_z w64 (of_z w64 self.to) ≡ self.to = omega (arith, ints) in
+    let found = touching_rule-found self.stores.now self.period self.from self.to _ _ low high region block log.rules.now
+    (log_of log) c.new-placed.result.start placed.rules placed.log placed.start in
+    λ read needed. c.requires.may read (block-within view block c.requires.block (places_of log) placed.places _
+    (period_rule self.stores.now self.period self.from self.to region)
+    (λ rule is. block_rule-within self.stores.now valid self.period self.known self.from self.to region block
+    c.requires.block rule (found rule is)) read needed)
