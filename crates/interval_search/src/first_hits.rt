@@ -4,10 +4,9 @@ ghost use Rattle.std.specs.Prelude.{replicate, slice_index, All, IfOk, OnOk};
 ghost use Rattle.std.specs.List.{sum_by};
 ghost use Rattle.std.specs.List.Sorted.{IsNonDecreasingBy, IsPermutation};
 ghost use Rattle.std.specs.Option.{option_to_list};
-ghost use Rattle.rule_store.specs.Needs.{log_needs};
-ghost use Rattle.snapshots.specs.Needs.{log_places};
 ghost use Rattle.snapshots.specs.Parts.{rules_in, snapshot_in};
 ghost use Rattle.snapshots.specs.Sound.{IsBlock};
+ghost use Rattle.slice_search.specs.Needs.{period_needs};
 ghost use Rattle.slice_search.specs.Sought.{first_stop_in, log_reads, AreSought};
 ghost use Rattle.interval_search.specs.FirstHits.{hit_at, is_known, known_after, AreFirst};
 
@@ -55,8 +54,8 @@ impl FirstHits {
         requires blocks { AreSought sought.now.stores.now sought.now.period sought.now.from
             sought.now.to sought.now.test.now.region (W.left blocks.old) }
         requires may { ReadsWithin (W.needs blocks.old) L.may }
-        requires logs { ReadsWithin (log_needs (log_places (snapshot_in sought.now.stores.now sought.now.period)))
-            L.may }
+        requires logs { ReadsWithin (period_needs sought.now.stores.now sought.now.period
+            sought.now.from sought.now.to sought.now.test.now.region) L.may }
         ensures first { OnOk result (AreFirst sought.now.stores.now sought.now.from sought.now.to
             sought.now.test.now.region (sought.now.period + 1) self.new.known.items
             self.new.found.items) }
@@ -85,8 +84,8 @@ impl FirstHits {
         requires block { IsBlock (snapshot_in sought.now.stores.now sought.now.period) block.now }
         requires known { block.now.index < length self.old.known.items }
         requires rules { pending.old.rules ≡ rules_in sought.now.stores.now }
-        requires may { ReadsWithin (log_needs (log_places (snapshot_in sought.now.stores.now sought.now.period)))
-            L.may }
+        requires may { ReadsWithin (period_needs sought.now.stores.now sought.now.period
+            sought.now.from sought.now.to sought.now.test.now.region) L.may }
         ensures known { OnOk result (self.new.known.items ≡ known_after (first_stop_in
             sought.now.stores.now sought.now.period sought.now.from sought.now.to
             sought.now.test.now.region block.now) block.now.index self.old.known.items) }

@@ -3,8 +3,8 @@ ghost use Rattle.step_count.specs.Reads.{ReadsWithin};
 ghost use Rattle.track_types.specs.ByFilter.{hits_of};
 ghost use Rattle.track_types.specs.Near.{IsAsked};
 ghost use Rattle.track_types.specs.Region.{IsRegionAsked};
-ghost use Rattle.snapshots.specs.Needs.{needs_between};
 ghost use Rattle.snapshots.specs.Parts.{chart_in};
+ghost use Rattle.slice_search.specs.Needs.{interval_needs};
 ghost use Rattle.interval_search.specs.Cost.{interval_cost};
 
 use crate::first_hits::FirstHits;
@@ -35,7 +35,7 @@ pub fn interval<'a, L: Reads>(
     requires from { IsAsked from }
     requires to { IsAsked to }
     requires region { IsRegionAsked test.now.region }
-    requires may { ReadsWithin (needs_between stores.now from to) L.may }
+    requires may { ReadsWithin (interval_needs stores.now from to test.now.region) L.may }
     ensures ok { IfOk result (λ found.
         found.items ≡ hits_of (chart_in stores.now).rows from to test.now.region) }
     ensures cost { steps.new ≤ steps.old + interval_cost stores.now from to test.now.region }

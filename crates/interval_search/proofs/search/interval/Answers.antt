@@ -8,12 +8,12 @@ use Rattle.track_types.specs.declared.frame.Frame.{Frame}
 use Rattle.track_types.specs.declared.hit.Hit.{Hit}
 use Rattle.track_types.specs.declared.region.Region.{Region}
 use Rattle.track_types.specs.Region.{intersects_region}
-use Rattle.snapshots.specs.Needs.{is_of_logs, log_places}
-use Rattle.snapshots.proofs.NeedsLemmas.{may-log, within-period}
+use Rattle.snapshots.proofs.NeedsLemmas.{within-period}
 use Rattle.snapshots.specs.IndexCost.{is_met}
-use Rattle.snapshots.specs.Parts.{chart_in, snapshot_in}
+use Rattle.snapshots.specs.Parts.{chart_in}
 use Rattle.snapshots.specs.SoundParts.{IsValid}
 use Rattle.track_types.specs.Frame.{grid_of}
+use Rattle.slice_search.proofs.NeedsLemmas.{may-search}
 use Rattle.interval_search.specs.Cost.{interval_cost}
 use Rattle.interval_search.specs.FirstHits.{AreFirst}
 use Rattle.interval_search.proofs.CostLemmas.{cost-met, cost-step}
@@ -79,10 +79,12 @@ look-requires-clause-may g c = λ read needed.
 pub look-requires-clause-logs : goal.look-requires-clause-logs
 look-requires-clause-logs g c =
     let parts = c.args.stores.now in
-    may-log g.L.Reads.may parts.frame (is_met parts.frame c.args.from c.args.to) (is_of_logs parts) c.requires.may
-    c.loop-period.period (omega (arith, c.loop-period-test.true, c.met-periods.ensures.within))
-    (met g (goal.at.look-requires-clause-logs g c).After-blocks-blocks)
-    (log_places (snapshot_in parts c.loop-period.period)) (λ place is. is)
+    let from : to_z w64 (of_z w64 c.args.from) ≡ c.args.from = omega (arith, ints) in
+    let to : to_z w64 (of_z w64 c.args.to) ≡ c.args.to = omega (arith, ints) in
+    rw (from, to) (may-search g.L.Reads.may parts (is_met parts.frame c.args.from c.args.to) c.args.from c.args.to
+    c.args.test.now.region c.requires.may c.loop-period.period
+    (omega (arith, c.loop-period-test.true, c.met-periods.ensures.within))
+    (met g (goal.at.look-requires-clause-logs g c).After-blocks-blocks))
 
 pub loop-period-preserved : goal.loop-period-preserved
 loop-period-preserved g c =
