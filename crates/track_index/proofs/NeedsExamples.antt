@@ -6,11 +6,24 @@ use Rattle.step_count.specs.Reads.{Read, ofPeriod, ofRule, ofSymbol}
 use Rattle.track_types.specs.declared.parts.Parts.{Parts}
 use Rattle.track_types.specs.declared.period_parts.PeriodParts.{PeriodParts}
 use Rattle.track_types.specs.declared.question.Question.{Question}
-use Rattle.track_types.specs.declared.question.Question.TheVariants.{Position, Path, Slice, Meet}
-use Rattle.track_types.specs.declared.region.Region.TheVariants.{Disc}
+use Rattle.track_types.specs.declared.question.Question.TheVariants.{Interval, Position, Path, Slice, Meet}
+use Rattle.track_types.specs.declared.region.Region.TheVariants.{Disc, Rect}
+use Rattle.k2_tree.specs.Morton.{cell_of, morton_column, morton_row}
+use Rattle.k2_tree.specs.Tree.{codes_below, codes_in, where_set}
+use Rattle.k2_tree.specs.TreeBits.{children_of_prefixes, prefixes}
+use Rattle.k2_tree.specs.Widths.{digits_in, levels_with}
+use Rattle.list_laws.specs.Grown.{table_of_rules}
+use Rattle.spiral_code.specs.Spiral.{move_of, ring_moves, ring_of_code, side_moves}
+use Rattle.rule_store.specs.Boxes.{bounding_box_of, box_round}
+use Rattle.rule_store.specs.Cells.{cells_along, displacement_of}
+use Rattle.rule_store.specs.Expansion.{expansion_of}
+use Rattle.rule_store.specs.Nodes.{nodes_in, parsed}
+use Rattle.log_cursor.specs.Touching.{touching_rule}
 use Rattle.snapshots.specs.Parts.{start_in}
+use Rattle.snapshots.specs.View.{all_blocks}
+use Rattle.slice_search.specs.Needs.{period_rule}
 use Rattle.track_index.specs.Cost.{needs_of}
-use Rattle.track_index.proofs.Examples.{corner, halves}
+use Rattle.track_index.proofs.Examples.{corner, halves, repeated}
 
 -- a period in which two objects begin in one cell, and each has one symbol
 abbrev side_by_side : PeriodParts
@@ -45,8 +58,8 @@ unfolding start_in rank_of ones_of
 position = refl
 
 -- a slice needs all logs of that period
-slice : needed (Slice (pos 2) (Disc (pos 0) (pos 0) 5)) ≡ false ∷ true ∷ true ∷ false ∷ false ∷ true ∷ true ∷ []
-unfolding start_in
+slice : needed (Slice (pos 2) (Disc (pos 0) (pos 0) 5)) ≡ false ∷ true ∷ false ∷ false ∷ false ∷ true ∷ true ∷ []
+unfolding start_in period_rule all_blocks touching_rule nodes_in parsed table_of_rules rank_of ones_of
 slice = refl
 
 -- a path needs its object's logs in the periods that its window meets
@@ -58,3 +71,20 @@ path = refl
 meeting : needed (Meet 7 9 (pos 0) (pos 1) 3) ≡ true ∷ false ∷ true ∷ true ∷ true ∷ false ∷ false ∷ []
 unfolding start_in rank_of ones_of
 meeting = refl
+
+-- Of a rule that moves an object from (0, 0) to (2, 0), and then from there to (4, 0), the questions need what touches their region.
+rule : map (λ question. needs_of repeated question (ofRule 1)) (
+    -- a slice that has no cell of its boxes does not
+    Slice (pos 1) (Rect (pos 1) (pos 1) (pos 4) (pos 4))
+    -- one that has a cell of the box that is there later does not either
+    ∷ Slice (pos 1) (Rect (pos 3) (pos 0) (pos 4) (pos 0))
+    -- one that has a cell of the box at its instant does
+    ∷ Slice (pos 1) (Rect (pos 2) (pos 0) (pos 4) (pos 0))
+    -- so does an interval that comes to the later box
+    ∷ Interval (pos 1) (pos 3) (Rect (pos 4) (pos 0) (pos 4) (pos 0))
+    -- and a position may read any rule
+    ∷ Position 1 (pos 1) ∷ []) ≡ false ∷ false ∷ true ∷ true ∷ true ∷ []
+unfolding start_in period_rule all_blocks touching_rule nodes_in parsed table_of_rules expansion_of bounding_box_of box_round cells_along
+    displacement_of move_of ring_moves ring_of_code side_moves where_set codes_below codes_in levels_with digits_in children_of_prefixes
+    prefixes morton_row morton_column cell_of rank_of ones_of
+rule = refl

@@ -1,4 +1,4 @@
--- Which reads the walk of a path needs.
+-- Which reads the walk of a path needs, and an interval.
 use Rattle.std.proofs.Common.{◌≡◌, ℕ, ◌+◌, ◌<◌, ◌≤◌, ℤ, Bool, true, false, ◌||◌, IsTrue, Option, Some, arith, ap, inl, inr, refl, subst, ◌∙◌}
 use Rattle.std.proofs.lemmas.Bool.Decides.{nat_tests}
 use Rattle.std.specs.Prelude.{nat_le, nat_lt}
@@ -6,15 +6,18 @@ use Rattle.std.proofs.lemmas.Bool.{and_parts, or_cases}
 use Rattle.step_count.specs.Reads.{Read, ReadsWithin, ofPeriod, ofRule, ofSymbol}
 use Rattle.track_types.specs.Frame.{periods_of}
 use Rattle.track_types.specs.declared.parts.Parts.{Parts}
+use Rattle.track_types.specs.declared.region.Region.{Region}
 use Rattle.rule_store.specs.Needs.{is_among, log_needs}
 use Rattle.rule_store.proofs.NeedsLemmas.{is_among-none}
 use Rattle.snapshots.specs.IndexCost.{is_met}
-use Rattle.snapshots.specs.Needs.{block_places, is_of_block, needs_in, object_needs_between}
+use Rattle.snapshots.specs.Needs.{block_places, is_of_block, needs_between, needs_in, object_needs_between}
 use Rattle.snapshots.specs.Parts.{index_in, snapshot_in}
 use Rattle.snapshots.specs.View.{block_of}
 use Rattle.snapshots.specs.declared.anchored.Anchored.{Anchored}
 use Rattle.snapshots.proofs.NeedsLemmas.{needs_in-symbol, needs_in-within}
 use Rattle.object_track.specs.Met.{AreMet}
+use Rattle.slice_search.specs.Needs.{interval_needs}
+use Rattle.slice_search.proofs.NeedsLemmas.{region-within}
 use Rattle.track_index.specs.Path.{is_left, left_needs, walk_needs}
 
 -- the next period is left
@@ -124,3 +127,8 @@ left-none parts index next behind periods symbols none =
     λ number left A. absurd (omega (arith, (is_left-bounds next behind number left).1, none)) in
     needs_in-within parts.frame (is_left next behind) (is_of_block parts (Some index)) periods symbols
     (λ number left. nothing number left _) (λ number place within left is. nothing number left _)
+
+-- an interval needs no more than what may read any rule in the same periods
+pub interval-within : (parts : Parts) (from to : ℤ) (region : Region)
+    → ReadsWithin (interval_needs parts from to region) (needs_between parts from to)
+interval-within parts from to region = region-within parts (is_met parts.frame from to) from to region

@@ -8,9 +8,10 @@ use Rattle.track_types.specs.declared.question.Question.{Question}
 use Rattle.track_types.specs.declared.question.Question.TheVariants as question
 use Rattle.track_types.specs.declared.stop.Stop.{Stop}
 use Rattle.snapshots.specs.IndexCost.{path_cost, position_cost}
-use Rattle.snapshots.specs.Needs.{needs_at, needs_between, object_needs_at, object_needs_between, pair_needs_between}
+use Rattle.snapshots.specs.Needs.{needs_at, object_needs_at, object_needs_between, pair_needs_between}
 use Rattle.snapshots.specs.Parts.{chart_in}
 use Rattle.slice_search.specs.Cost.{slice_cost}
+use Rattle.slice_search.specs.Needs.{interval_needs, slice_needs}
 use Rattle.interval_search.specs.Cost.{interval_cost}
 use Rattle.nearest_search.specs.Cost.{nearest_cost}
 
@@ -25,14 +26,15 @@ cost_of parts (question.Nearest count instant cell) = nearest_cost parts count i
 cost_of parts (question.Hold slot object from to) = path_cost parts object from to
 cost_of parts other = 0
 
--- What a question needs to be read: rules; of periods only that of its instant, or those that its window meets; and of stored
--- symbols only those of the logs of these periods. Where it asks for one object or two, they are those of the objects' blocks
--- there. A held path needs what it needs to walk it.
+-- What a question needs to be read: of periods only that of its instant, or those that its window meets; of stored symbols only
+-- those of the logs of these periods; and rules. Where it asks for one object or two, the symbols are those of the objects' blocks
+-- there. Of rules a slice and an interval need only those that touch their region, the others any. A held path needs what it
+-- needs to walk it.
 abbrev pub needs_of : Parts → Question → Read → Bool
 needs_of parts (question.Position object instant) = object_needs_at parts object instant
 needs_of parts (question.Path object from to) = object_needs_between parts object from to
-needs_of parts (question.Slice instant region) = needs_at parts instant
-needs_of parts (question.Interval from to region) = needs_between parts from to
+needs_of parts (question.Slice instant region) = slice_needs parts instant region
+needs_of parts (question.Interval from to region) = interval_needs parts from to region
 needs_of parts (question.Nearest count instant cell) = needs_at parts instant
 needs_of parts (question.Meet left right from to reach) = pair_needs_between parts left right from to
 needs_of parts (question.Hold slot object from to) = object_needs_between parts object from to

@@ -4,10 +4,10 @@ ghost use Rattle.track_types.specs.ByFilter.{hits_of, sightings_of};
 ghost use Rattle.track_types.specs.Near.{IsAsked, IsBoxWithin, IsCellWithin};
 ghost use Rattle.track_types.specs.Region.{in_region, intersects_region};
 ghost use Rattle.track_types.specs.Region.{IsRegionAsked, IsRegionWithin};
-ghost use Rattle.snapshots.specs.Needs.{needs_at, needs_between};
 ghost use Rattle.snapshots.specs.Parts.{chart_in};
 ghost use Rattle.interval_search.specs.Cost.{interval_cost};
 ghost use Rattle.slice_search.specs.Cost.{slice_cost};
+ghost use Rattle.slice_search.specs.Needs.{interval_needs, slice_needs};
 
 use interval_search::interval;
 use region_test::RegionTest;
@@ -30,7 +30,7 @@ pub(crate) fn slice_of<L: Reads>(
 ) -> Result<Vec<Sighting>, Memory>
     requires instant { IsAsked instant }
     requires region { IsRegionAsked region.now }
-    requires may { ReadsWithin (needs_at stores.now instant) L.may }
+    requires may { ReadsWithin (slice_needs stores.now instant region.now) L.may }
     ensures ok { IfOk result (λ found.
         found.items ≡ sightings_of (chart_in stores.now).rows instant region.now) }
     ensures cost { steps.new ≤ steps.old + slice_cost stores.now instant region.now }
@@ -69,7 +69,7 @@ pub(crate) fn interval_of<L: Reads>(
     requires from { IsAsked window.0 }
     requires to { IsAsked window.1 }
     requires region { IsRegionAsked region.now }
-    requires may { ReadsWithin (needs_between stores.now window.0 window.1) L.may }
+    requires may { ReadsWithin (interval_needs stores.now window.0 window.1 region.now) L.may }
     ensures ok { IfOk result (λ found.
         found.items ≡ hits_of (chart_in stores.now).rows window.0 window.1 region.now) }
     ensures cost { steps.new

@@ -1,9 +1,9 @@
 use Rattle.std.proofs.Common.{◌≡◌, ◌≤◌, ◌+◌, ℤ, w64, to_z, of_z, arith, subst, sym}
 use Rattle.std.proofs.lemmas.Int.{ints}
 use Rattle.step_count.specs.Reads.{ReadsWithin}
-use Rattle.snapshots.specs.Needs.{needs_between}
 use Rattle.track_types.specs.declared.parts.Parts.{Parts}
 use Rattle.interval_search.specs.Cost.{interval_cost}
+use Rattle.slice_search.specs.Needs.{interval_needs}
 use Rattle.track_index.specs.Cost.{cost_of}
 use Rattle.track_index.proofs.answering.IndexRefAnswerer.interval.Goals as goal
 
@@ -27,6 +27,7 @@ interval_of-requires-clause-may g c =
     let high : ℤ = to_z w64 (of_z w64 c.args.to) in
     let from : low ≡ c.args.from = omega (arith, ints) in
     let to : high ≡ c.args.to = omega (arith, ints) in
-    subst (λ (p : Parts). ReadsWithin (needs_between p low high) g.L.Reads.may) (sym c.stores.ensures.value)
-    (subst (λ z. ReadsWithin (needs_between parts z high) g.L.Reads.may) (sym from)
-    (subst (λ z. ReadsWithin (needs_between parts c.args.from z) g.L.Reads.may) (sym to) c.requires.may))
+    let region = c.args.region.now in
+    subst (λ (p : Parts). ReadsWithin (interval_needs p low high region) g.L.Reads.may) (sym c.stores.ensures.value)
+    (subst (λ z. ReadsWithin (interval_needs parts z high region) g.L.Reads.may) (sym from)
+    (subst (λ z. ReadsWithin (interval_needs parts c.args.from z region) g.L.Reads.may) (sym to) c.requires.may))

@@ -1,9 +1,9 @@
 use Rattle.std.proofs.Common.{◌≡◌, ◌≤◌, ◌+◌, w64, to_z, of_z, arith, subst, sym}
 use Rattle.std.proofs.lemmas.Int.{ints}
 use Rattle.step_count.specs.Reads.{ReadsWithin}
-use Rattle.snapshots.specs.Needs.{needs_at}
 use Rattle.track_types.specs.declared.parts.Parts.{Parts}
 use Rattle.slice_search.specs.Cost.{slice_cost}
+use Rattle.slice_search.specs.Needs.{slice_needs}
 use Rattle.track_index.specs.Cost.{cost_of}
 use Rattle.track_index.proofs.answering.IndexRefAnswerer.slice.Goals as goal
 
@@ -19,6 +19,7 @@ returns-clause-cost g c =
 pub slice_of-requires-clause-may : goal.slice_of-requires-clause-may
 slice_of-requires-clause-may g c =
     let same : to_z w64 (of_z w64 c.args.instant) ≡ c.args.instant = omega (arith, ints) in
-    subst (λ (p : Parts). ReadsWithin (needs_at p (to_z w64 (of_z w64 c.args.instant))) g.L.Reads.may)
+    let region = c.args.region.now in
+    subst (λ (p : Parts). ReadsWithin (slice_needs p (to_z w64 (of_z w64 c.args.instant)) region) g.L.Reads.may)
     (sym c.stores.ensures.value)
-    (subst (λ z. ReadsWithin (needs_at c.args.self.index.now z) g.L.Reads.may) (sym same) c.requires.may)
+    (subst (λ z. ReadsWithin (slice_needs c.args.self.index.now z region) g.L.Reads.may) (sym same) c.requires.may)
