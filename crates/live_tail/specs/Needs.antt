@@ -5,7 +5,7 @@ use Rattle.track_types.specs.declared.parts.Parts.{Parts}
 use Rattle.track_types.specs.declared.question.Question.{Question}
 use Rattle.track_types.specs.declared.question.Question.TheVariants as question
 use Rattle.snapshots.specs.Needs.{needs_between}
-use Rattle.track_index.specs.Needs.{needs_of}
+use Rattle.track_index.specs.Cost.{needs_of}
 
 -- What a question needs to be read of an index beside a tail. It is what it needs of the index alone. But an interval may read
 -- any rule, since where the tail overrides a hit the path of its object is walked.
