@@ -22,7 +22,7 @@ use Rattle.list_laws.proofs.MemberLemmas.{filter-none, first_member, later_membe
 use Rattle.list_laws.proofs.OptionLemmas.{flat_map-options}
 use Rattle.list_laws.proofs.OrderedLemmas.{find-filter}
 use Rattle.track_types.specs.ByFilter.{hit_of, hits_of, is_earlier, is_first_among, is_hit, is_row_between, stop_of}
-use Rattle.track_types.specs.Region.{in_region}
+use Rattle.track_types.specs.Region.{in_region, is_between}
 use Rattle.track_types.specs.Row.{IsAscending, row_order}
 use Rattle.track_types.specs.declared.region.Region.{Region}
 use Rattle.track_types.specs.declared.row.Row.{Row}
@@ -67,6 +67,11 @@ module _ (object : ℕ) where
       filter-none (is_first_among (x ∷ xs)) xs (λ y inside. rw (apart y inside).0 refl) in
       rw (least, others, its) refl
 
+-- the last of three tests comes first
+last_first : (a b c : Bool) → a && (b && c) ≡ c && (a && b)
+last_first true b c = and_comm b c
+last_first false b c = and_comm false c
+
 module _ (rows : List Row) (up : IsAscending rows) (from to : ℤ) (region : Region) where
   abbrev hits : List Row
   hits = filter (is_hit from to region) rows
@@ -84,7 +89,12 @@ module _ (rows : List Row) (up : IsAscending rows) (from to : ℤ) (region : Reg
     own-path =
         sym (filter_and (is_of object) (is_hit from to region) rows)
         ∙ filter_agree (λ row. is_of object row && is_hit from to region row)
-        (λ row. in_region region row.cell && is_row_between object from to row) (λ row. grind (arith, nat_tests)) rows
+        (λ row. in_region region row.cell && is_row_between object from to row)
+        (λ row.
+        let within = is_between from to row.instant in
+        let same : (row.object == object) ≡ (object == row.object) = grind (arith, nat_tests) in
+        last_first (is_of object row) within (in_region region row.cell)
+        ∙ ap (λ its. in_region region row.cell && (its && within)) same) rows
         ∙ filter_and (λ row. in_region region row.cell) (is_row_between object from to) rows
 
     -- the first of all among them are the first of them
