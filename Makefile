@@ -23,7 +23,7 @@ try:
 	@scripts/try
 
 test:
-	@echo 'Proving and trying all of gract. From nothing it takes some 70 minutes on two processors that do nothing else, and less on four.'
+	@echo 'Proving and trying all of gract. From nothing it takes some 45 minutes on four processors that do nothing else, and 70 on two.'
 	@.ci/run
 
 dist:
