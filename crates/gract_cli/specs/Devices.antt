@@ -68,10 +68,15 @@ TellsText outcome.Done text before now = Gains before now text
 TellsText outcome.SayFailed text before now = SaysFront before now text
 TellsText other text before now = ⊥
 
+-- A count of faults rose where saying failed, and is what it was where the text was said.
+abbrev pub CountsText : Outcome → ℕ → ℕ → Type 0
+CountsText outcome.Done before now = now ≡ before
+CountsText outcome.SayFailed before now = Rose before now
+CountsText other before now = ⊥
+
 -- A text was said, or a front of it where saying failed, and nothing else was done.
 pub record SaysText (result : Outcome) (text : List ℕ) (before now : Devices) : Type 0 where
   pub told : TellsText result text before.sink.said now.sink.said
-  pub say_cause : result ≡ outcome.SayFailed → Rose before.sink.faults now.sink.faults
-  pub say_untouched : result ≢ outcome.SayFailed → now.sink.faults ≡ before.sink.faults
+  pub count : CountsText result before.sink.faults now.sink.faults
   pub files : now.files ≡ before.files
   pub source : now.source ≡ before.source

@@ -4,11 +4,10 @@
 //! `--help` and `--version`, each alone, are answered here.
 #![tactic(auto)]
 
-ghost use Rattle.std.specs.Prelude.{◌≡◌, ◌≢◌, ◌<◌, ℕ, List, Some, None};
+ghost use Rattle.std.specs.Prelude.{◌≡◌, ◌<◌, ℕ, List, Some, None};
 ghost use Rattle.step_count.specs.Reads.{AllMay};
-ghost use Rattle.host_ports.specs.Faults.{Rose};
 ghost use Rattle.gract_cli.specs.About.{about_of};
-ghost use Rattle.gract_cli.specs.Devices.{Runs, SaysText, TellsText, devices};
+ghost use Rattle.gract_cli.specs.Devices.{CountsText, Runs, SaysText, TellsText, devices};
 
 mod about;
 mod command_line;
@@ -70,8 +69,7 @@ fn answer<D: Files, R: Read, W: Write>(
 // Says a text.
 fn say_text<K: Sink>(text: &str, sink: &mut K) -> Outcome
     ensures told { TellsText result text.now (K.said sink.old) (K.said sink.new) }
-    ensures say_cause { result ≡ Outcome.SayFailed → Rose (K.faults sink.old) (K.faults sink.new) }
-    ensures say_untouched { result ≢ Outcome.SayFailed → K.faults sink.new ≡ K.faults sink.old }
+    ensures count { CountsText result (K.faults sink.old) (K.faults sink.new) }
 {
     match sink.say(text.as_bytes()) {
         Ok(()) => Outcome::Done,
