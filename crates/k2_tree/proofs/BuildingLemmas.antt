@@ -5,7 +5,6 @@ use Rattle.std.proofs.Common.{subst, replicate, if◌then◌else◌}
 use Rattle.std.proofs.Common.{length-append, append_assoc, append-nil}
 use Rattle.std.specs.List.{range_with_len}
 use Rattle.std.proofs.Math.Nat.{div-add-mod, mod-lt}
-use Rattle.std.proofs.lemmas.Nat.{div-mul-add}
 use Rattle.std.proofs.lemmas.Grind.{flat_map-append}
 use Rattle.std.proofs.Math.ListN.{set}
 use Rattle.std.proofs.Math.Seq.{take-suc}
@@ -21,7 +20,7 @@ use Rattle.k2_tree.proofs.LevelLemmas.{bits_above-same, length-levels_bits, mort
 use Rattle.k2_tree.proofs.WidthLemmas.{digits_in-levels_with}
 use Rattle.k2_tree.proofs.MortonLemmas.{two_bits}
 use Rattle.k2_tree.proofs.RisingLemmas.{Rises-place}
-use Rattle.k2_tree.proofs.PrefixLemmas.{any-prefixes, by_test, once_from, prefixes-rise, fan_pos}
+use Rattle.k2_tree.proofs.PrefixLemmas.{any-prefixes, by_test, div-group, once_from, prefixes-rise, fan_pos}
 use Rattle.k2_tree.proofs.LongerLemmas.{div-pow_add, length-children_of_prefixes, get_or-children_of_prefixes, children_of_prefixes-rises, prefixes-shorter}
 
 -- the places of a square whose first number is the i-th and whose prefix drops so many digits; none where the number
@@ -153,11 +152,7 @@ fresh : (size q : ℕ) (f : ℕ → Bool) (start m : ℕ) → 0 < size → size 
     → ((z : ℕ) → z / size ≡ q → f z ≡ false) → map f (range_with_len start m) ≡ replicate m false
 fresh size q f start zero some low high none = refl
 fresh size q f start (suc m) some low high none =
-    let quotient : start / size ≡ q =
-    let d : ℕ = start - size * q in
-    let e : start ≡ q * size + d = omega arith in
-    ap (λ x. x / size) e ∙ div-mul-add q size d (omega arith) in
-    rw (none start quotient) (ap (λ bs. false ∷ bs)
+    rw (none start (div-group size q start low (omega arith))) (ap (λ bs. false ∷ bs)
     (fresh size q f (start + 1) m some (omega arith) (omega arith) none))
 
 -- the longer prefixes of one prefix more

@@ -117,9 +117,3 @@ tree_of-StandsFor height wide base bits tree stands =
     (ap (λ codes. tree_with tree.height tree.wide tree.base (map (cell_of tree.height tree.base) codes))
     (codes_in-own tree.height tree.wide (codes_of tree) is.grid.some is.fits is.codes)
     ∙ ap (tree_with tree.height tree.wide tree.base) (cells_back tree.height tree.base tree.cells is.inside))
-
--- bits stand for one tree alone
-pub StandsFor-unique : (height wide : ℕ) (base : Cell) (bits : List Bool) (tree other : Tree)
-    → StandsFor height wide base bits tree → StandsFor height wide base bits other → tree ≡ other
-StandsFor-unique height wide base bits tree other stands stands' =
-    sym (tree_of-StandsFor height wide base bits tree stands) ∙ tree_of-StandsFor height wide base bits other stands'

@@ -2,7 +2,6 @@
 use Rattle.std.proofs.Common.{◌≡◌, ℕ, zero, suc, ◌+◌, ◌*◌, ◌/◌, ◌<◌, ◌≤◌, ◌==◌, ◌&&◌, ◌||◌, Bool, true, false}
 use Rattle.std.proofs.Common.{nat_le, List, [], ◌∷◌, ◌++◌, length, map, take, drop, refl, sym, ap, ◌∙◌, inl, inr, arith}
 use Rattle.std.proofs.Common.{None, Some, length-drop, length-append, append_assoc, ◌-◌}
-use Rattle.std.proofs.lemmas.Nat.{div-mul-add}
 use Rattle.std.specs.List.{list_any, range_with_len}
 use Rattle.std.specs.Option.{option_map}
 use Rattle.std.proofs.lemmas.Bool.{and_parts, cases_Bool, le-leb, leb-true, or_right}
@@ -12,13 +11,12 @@ use Rattle.std.proofs.lemmas.List.Folds.{list_any-append}
 use Rattle.std.proofs.lemmas.List.FromFn.{length-range_with_len}
 use Rattle.std.proofs.lemmas.Option.{none-some}
 use Rattle.list_laws.proofs.FirstLemmas.{map-none}
-use Rattle.std.proofs.lemmas.Option.{none-some}
 use Rattle.k2_tree.specs.Widths.{widths_of, digits_in, fan_of}
 use Rattle.k2_tree.specs.TreeBits.{is_in, prefixes, Rises, children_of_prefixes, level_bits, morton_bits, AreCodes}
 use Rattle.k2_tree.specs.Tree.{where_set}
 use Rattle.k2_tree.specs.Flaws.{AreNoTree, has_group, group_flaw, level_flaw, tree_flaw}
 use Rattle.k2_tree.proofs.RisingLemmas.{is_in-first}
-use Rattle.k2_tree.proofs.PrefixLemmas.{by_test, prefixes-top, fan_pos}
+use Rattle.k2_tree.proofs.PrefixLemmas.{by_test, div-group, prefixes-top, fan_pos}
 use Rattle.k2_tree.proofs.LongerLemmas.{is_in-group, is_in-parents}
 use Rattle.k2_tree.proofs.LevelLemmas.{length-level_bits, ones_of-level_bits}
 use Rattle.k2_tree.proofs.WidthLemmas.{digits_in-widths_of}
@@ -179,21 +177,14 @@ unfolding where_set
 parents-group size p c zero start [] some low high long = refl
 parents-group size p c zero start (bit ∷ bits) some low high long = absurd (omega arith)
 parents-group size p c (suc m) start [] some low high long = absurd (omega arith)
-parents-group size p c (suc m) start (bit ∷ bits) some low high long =
-    let rest = parents-group size p c m (start + 1) bits some (omega arith) (omega arith) (omega arith) in
-    let quotient : start / size ≡ p =
-    let d : ℕ = start - size * p in
-    let e : start ≡ p * size + d = omega arith in
-    ap (λ x. x / size) e ∙ div-mul-add p size d (omega arith) in
-    by_bit bit quotient rest
-  where
-    by_bit : (bit : Bool) → start / size ≡ p
-        → list_any (λ x. x / size == c) (where_set bits (range_with_len (start + 1) m))
-        ≡ (list_any (λ bit. bit) bits && (p == c))
-        → list_any (λ x. x / size == c) (where_set (bit ∷ bits) (range_with_len start (suc m)))
-        ≡ (list_any (λ bit. bit) (bit ∷ bits) && (p == c))
-    by_bit true quotient rest = grind (arith, rest, ap (λ q. q == c) quotient)
-    by_bit false quotient rest = rest
+parents-group size p c (suc m) start (true ∷ bits) some low high long =
+    grind (
+      arith,
+      parents-group size p c m (start + 1) bits some (omega arith) (omega arith) (omega arith),
+      ap (λ q. q == c) (div-group size p start low (omega arith)),
+    )
+parents-group size p c (suc m) start (false ∷ bits) some low high long =
+    parents-group size p c m (start + 1) bits some (omega arith) (omega arith) (omega arith)
 
 -- where each group has a one, the parents of what is picked are all of the prefixes
 pub parents-where_set : (size : ℕ) (prefixes : List ℕ) (bits : List Bool) (c : ℕ) → 0 < size

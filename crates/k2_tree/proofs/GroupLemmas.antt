@@ -1,5 +1,5 @@
 -- Where groups stand by the number of their square, and back.
-use Rattle.std.proofs.Common.{◌≡◌, ℕ, zero, suc, ◌+◌, ◌-◌, ◌*◌, ◌/◌, ◌^◌, ◌<◌, nat_lt}
+use Rattle.std.proofs.Common.{◌≡◌, ℕ, zero, suc, ◌+◌, ◌-◌, ◌*◌, ◌^◌, ◌<◌, nat_lt}
 use Rattle.std.proofs.Common.{List, [], ◌∷◌, ◌++◌, length, refl, sym, ap, ◌∙◌, inl, inr, arith, if◌then◌else◌}
 use Rattle.std.proofs.lemmas.Bool.{cases_lt, le-ltb, lt-ltb}
 use Rattle.k2_tree.specs.Widths.{levels_with, digits_in, fan_of}
@@ -28,42 +28,26 @@ same_test t u j = elim (cases_lt j u) [
   | inr high ↦ le-ltb j u high ∙ sym (le-ltb (t + j) (t + u) (omega arith))
 ]
 
--- as the format says it, by the number of bits of the upper levels
-pub group_start-by_bits : (u j : ℕ)
-    → group_start u j ≡ (if nat_lt (16 * j) (16 * u) then 16 * j else 16 * u + 4 * (j - 16 * u / 16))
-unfolding group_start
-group_start-by_bits u j = elim (cases_lt j u) [
-  | inl low ↦ rw (lt-ltb j u low, lt-ltb (16 * j) (16 * u) (omega arith)) refl
-  | inr high ↦ rw (le-ltb j u high, le-ltb (16 * j) (16 * u) (omega arith)) (omega arith)
-]
-
 -- a place leads back to its square and its digit
 module _ (u j d : ℕ) (small : d < fan_of (square_width u j)) where
-  pub back_square : square_at u (group_start u j + d) ≡ j
-  unfolding group_start square_at
-  back_square = elim (cases_lt j u) [
+  back : (square_at u (group_start u j + d) ≡ j) × (digit_at u (group_start u j + d) ≡ d)
+  unfolding group_start square_at digit_at
+  back = elim (cases_lt j u) [
     | inl low ↦
         let on = lt-ltb j u low in
         let few : d < 16 = rw on at small in
-        rw (on, lt-ltb (16 * j + d) (16 * u) (omega arith)) (omega arith)
+        rw (on, lt-ltb (16 * j + d) (16 * u) (omega arith)) (omega arith, omega arith)
     | inr high ↦
         let off = le-ltb j u high in
         let few : d < 4 = rw off at small in
-        rw (off, le-ltb (16 * u + 4 * (j - u) + d) (16 * u) (omega arith)) (omega arith)
+        rw (off, le-ltb (16 * u + 4 * (j - u) + d) (16 * u) (omega arith)) (omega arith, omega arith)
   ]
 
+  pub back_square : square_at u (group_start u j + d) ≡ j
+  back_square = back.0
+
   pub back_digit : digit_at u (group_start u j + d) ≡ d
-  unfolding group_start digit_at
-  back_digit = elim (cases_lt j u) [
-    | inl low ↦
-        let on = lt-ltb j u low in
-        let few : d < 16 = rw on at small in
-        rw (on, lt-ltb (16 * j + d) (16 * u) (omega arith)) (omega arith)
-    | inr high ↦
-        let off = le-ltb j u high in
-        let few : d < 4 = rw off at small in
-        rw (off, le-ltb (16 * u + 4 * (j - u) + d) (16 * u) (omega arith)) (omega arith)
-  ]
+  back_digit = back.1
 
 -- how many squares the first of two kinds of levels have
 abbrev pub upper_of : ℕ → ℕ → List ℕ → ℕ

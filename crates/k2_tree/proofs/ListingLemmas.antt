@@ -1,18 +1,16 @@
 -- The squares of a level and their children, one level after another.
-use Rattle.std.proofs.Common.{◌≡◌, ℕ, zero, suc, ◌+◌, ◌-◌, ◌*◌, ◌/◌, ◌%◌, ◌^◌, ◌<◌, ◌≤◌, ◌==◌, Bool, false, All, List, [], ◌∷◌, ◌++◌, length, map, filter, get_or, take, refl, sym, ap, subst, ◌∙◌, arith, inl, inr}
+use Rattle.std.proofs.Common.{◌≡◌, ℕ, suc, ◌+◌, ◌-◌, ◌*◌, ◌/◌, ◌%◌, ◌^◌, ◌<◌, ◌≤◌, ◌==◌, Bool, false, All, List, [], ◌∷◌, ◌++◌, length, map, filter, get_or, take, refl, sym, ap, subst, ◌∙◌, arith, inl, inr}
 use Rattle.std.specs.Int.{bit_at}
-use Rattle.std.specs.List.{flat_map, range_with_len}
+use Rattle.std.specs.List.{flat_map}
 use Rattle.std.proofs.lemmas.Bool.{cases_lt}
 use Rattle.std.proofs.lemmas.List.{append_assoc, get_or-map, map-id, map-append, take_all, take_more, append-nil, length-append, length-map}
 use Rattle.std.proofs.lemmas.List.Concat.{flat_map-append}
 use Rattle.std.proofs.lemmas.List.Elements.{All-map}
 use Rattle.std.proofs.lemmas.List.Filters.{All-dedup}
-use Rattle.std.proofs.lemmas.Option.{get_or_from_slice_get}
 use Rattle.std.proofs.Math.Nat.{div-le_self, pow-le-pow_right}
 use Rattle.std.proofs.lemmas.Simd.{map-map}
 use Rattle.bit_rank.specs.Cost.{window_reads}
 use Rattle.packed_bits.specs.Bits.{window_of}
-use Rattle.packed_bits.proofs.NumberLemmas.{window_of-bit, window_of-inside}
 use Rattle.track_types.specs.declared.cell.Cell.{Cell}
 use Rattle.track_types.specs.declared.limit.TheConstants.{MAX_HEIGHT}
 use Rattle.k2_tree.specs.Digits.{digits_of}
@@ -31,7 +29,7 @@ use Rattle.k2_tree.proofs.LevelLemmas.{digits_in-append}
 use Rattle.k2_tree.proofs.MortonLemmas.{morton_column-lt, morton_row-lt}
 use Rattle.k2_tree.proofs.PrefixLemmas.{fan_pos, prefixes-zero}
 use Rattle.k2_tree.proofs.PruningLemmas.{child_prefixes-flat}
-use Rattle.k2_tree.proofs.StoredLemmas.{children_of_prefixes-one}
+use Rattle.k2_tree.proofs.StoredLemmas.{bit_of_window, children_of_prefixes-one, kept_alike}
 use Rattle.k2_tree.proofs.WayLemmas.{top_from_bits}
 use Rattle.k2_tree.proofs.WidthLemmas.{digits_in-widths_of, digits_in-widths_under, widths_under-opened, widths_under-top, width_below-within}
 
@@ -71,15 +69,6 @@ child-more w k q d some narrow small = elim (cases_lt w 2) [
       ∙ quarter-more (suc k) (4 * q + d / 4) (d % 4) (omega arith)
       ∙ ap (λ c. spot_of (suc (suc k)) c) code ∙ ap (λ n. spot_of n (16 * q + d)) (sym next))
 ]
-
--- tests that agree on a range keep the same of it, also where it is mapped
-kept_alike : {X : Type 0} (f : ℕ → ℕ) (g h : ℕ → X) (p q : ℕ → Bool) (k d : ℕ)
-    → ((e : ℕ) → d ≤ e → e < d + k → (p e ≡ q (f e)) × (g e ≡ h (f e)))
-    → map g (filter p (range_with_len d k)) ≡ map h (filter q (map f (range_with_len d k)))
-kept_alike f g h p q zero d agree = refl
-kept_alike f g h p q (suc k) d agree =
-    let here = agree d (omega arith) (omega arith) in
-    grind (arith, here.0, here.1, kept_alike f g h p q k (d + 1) (λ e low high. agree e (omega arith) (omega arith)))
 
 -- prefixes are no greater than the numbers
 pub prefixes-small : (n limit : ℕ) (codes : List ℕ) → All (λ code. code < limit) codes
@@ -127,7 +116,7 @@ spots_told height wide bits below count =
     (codes_in (widths_of height wide) bits)) (take count (prefixes below (codes_in (widths_of height wide) bits))))
 
 -- a level of a tree that is not the lowest
-module _ (height wide : ℕ) (bits : List Bool) (are : AreTreeBits height wide bits) (spots : List Spot) (start below : ℕ)
+module _ {height wide : ℕ} {bits : List Bool} (are : AreTreeBits height wide bits) {spots : List Spot} {start below : ℕ}
     (is : IsLevelOf height wide bits spots start below) (inner : 0 < below) where
   abbrev low : ℕ
   low = height - 2 * wide
@@ -195,10 +184,7 @@ module _ (height wide : ℕ) (bits : List Bool) (are : AreTreeBits height wide b
           ∙ ap (λ m. is_in (prefixes m codes) (fan_of w * q + d)) same
 
       window_told : (bit_at (window_of bits from (fan_of w)) d == 1) ≡ get_or bits (from + d) false
-      window_told =
-          ap (λ v. v == 1) (sym (window_of-inside bits from d 1 (fan_of w) (omega (arith, small))))
-          ∙ sym (get_or_from_slice_get bits (from + d) (window_of bits (from + d) 1 == 1) false
-          (window_of-bit bits (from + d) child_within))
+      window_told = bit_of_window bits from d (fan_of w) small child_within
 
     -- the bits of its children are in the tree
     pub group_within : from + fan_of w ≤ length bits
@@ -301,7 +287,7 @@ module _ (height wide : ℕ) (bits : List Bool) (are : AreTreeBits height wide b
         omega (arith, morton_row-lt k p, low_side),
       )
 
-module _ (height wide : ℕ) (bits : List Bool) (are : AreTreeBits height wide bits) where
+module _ {height wide : ℕ} {bits : List Bool} (are : AreTreeBits height wide bits) where
   -- the square of the whole grid
   pub level-top : (spots : List Spot) → spots ≡ record { code = 0; column = 0; row = 0 } ∷ [] → 0 < length bits
       → IsLevelOf height wide bits spots 0 height

@@ -1,8 +1,9 @@
 -- Prefixes of ascending numbers: what they hold, and which of the longer ones occur.
-use Rattle.std.proofs.Common.{◌≡◌, ℕ, zero, suc, ◌/◌, ◌^◌, ◌<◌, ◌≤◌, ◌==◌, ◌||◌, ◌&&◌, ◌⊎◌}
+use Rattle.std.proofs.Common.{◌≡◌, ℕ, zero, suc, ◌+◌, ◌-◌, ◌*◌, ◌/◌, ◌^◌, ◌<◌, ◌≤◌, ◌==◌, ◌||◌, ◌&&◌, ◌⊎◌}
 use Rattle.std.proofs.Common.{Bool, true, false, List, [], ◌∷◌, map, filter, All}
 use Rattle.std.proofs.Common.{refl, ap, ◌∙◌, inl, inr, arith, lit<, subst}
 use Rattle.std.proofs.lemmas.Bool.{cases_Bool}
+use Rattle.std.proofs.lemmas.Nat.{div-mul-add}
 use Rattle.std.proofs.lemmas.Bool.Decides.{nat_tests}
 use Rattle.std.proofs.Math.Nat.{div-one, pow-suc, div-eq_of_lt}
 use Rattle.std.specs.List.{dedup_from, list_any}
@@ -20,6 +21,13 @@ by_test x k = elim (cases_Bool (x == k)) [
   | inl e ↦ inl (grind (arith, nat_tests), e)
   | inr e ↦ inr (λ same. grind (arith, nat_tests), e)
 ]
+
+-- numbers one after another that are children of one square lead to it
+pub div-group : (size q x : ℕ) → size * q ≤ x → x < size * q + size → x / size ≡ q
+div-group size q x low high =
+    let d : ℕ = x - size * q in
+    let e : x ≡ q * size + d = omega arith in
+    ap (λ x. x / size) e ∙ div-mul-add q size d (omega arith)
 
 -- what climbs, once each, rises
 once_from-rises : (k : ℕ) (xs : List ℕ) → Climbs k xs → Rises k (once_from k xs)

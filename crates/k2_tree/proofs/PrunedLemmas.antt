@@ -22,7 +22,7 @@ use Rattle.k2_tree.specs.Cost.{child_reads}
 use Rattle.k2_tree.proofs.CellLemmas.{cells_back}
 use Rattle.k2_tree.proofs.WidthLemmas.{digits_in-widths_under, digits_in-widths_of, widths_under-none}
 use Rattle.k2_tree.proofs.WidthLemmas.{widths_under-opened, widths_under-top, width_below-within}
-use Rattle.k2_tree.proofs.PruningLemmas.{leaves-enumerated, kept_below-all, weight_below-all}
+use Rattle.k2_tree.proofs.PruningLemmas.{kept_in-opened, leaves-enumerated, kept_below-all, weight_below-all}
 
 -- what a test keeps of a square: nothing where it fails, the own number of a cell, else what it keeps of the children
 module _ (test : Node → Bool) (tree : Tree) where
@@ -49,17 +49,6 @@ module _ (test : Node → Bool) (tree : Tree) where
     where
       own : test (node 0 prefix) ≡ true → kept_below test (codes_of tree) [] prefix ≡ prefix ∷ []
       own on = rw on refl
-
-  kept_in-opened : (level prefix : ℕ) → 1 ≤ level → test (node level prefix) ≡ true
-      → kept_in test tree (node level prefix) ≡ flat_map (kept_in test tree) (child_nodes tree (node level prefix))
-  unfolding kept_below
-  kept_in-opened level prefix some holds =
-      let w : ℕ = width_below low level in
-      let n : ℕ = level - w in
-      let digits : digits_in (widths_under low n) ≡ n = digits_in-widths_under low n in
-      let whole : w + n ≡ level = omega (arith, (width_below-within low level some).1) in
-      rw (widths_under-opened low level some, digits, whole, holds)
-      (sym (flat_map-map (kept_in test tree) (node n) (child_prefixes w n (codes_of tree) prefix)))
 
 -- the weights of a square are its own and those of its children
 module _ (weight : Node → ℕ) (tree : Tree) where
@@ -153,7 +142,7 @@ module _ {keep : CellBox → Bool} {old new : SquareWalkView} {square : Node} {a
       let below : List Node = child_nodes old.tree square in
       let passes : test square ≡ true = visit.told ∙ holds in
       let own : reads_of test square ≡ child_reads = rw passes refl in
-      let kept = kept_in-opened test old.tree square.level square.prefix some passes in
+      let kept = kept_in-opened test (old.tree.height - 2 * old.tree.wide) (codes_of old.tree) square.level square.prefix some passes in
       record {
         left = rw (same, pending, visit.tree, visit.pending) (ap (map (leaf_of old.tree))
             (flat_map-append (kept_in test old.tree) below new.pending

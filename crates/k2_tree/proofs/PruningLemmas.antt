@@ -12,11 +12,10 @@ use Rattle.k2_tree.specs.Squares.{Node, node, level_squares, squares_from}
 use Rattle.k2_tree.specs.Pruning.{leaf_with, place_among, digits_left, passes, child_prefixes, kept_below, weight_below}
 use Rattle.k2_tree.proofs.MortonLemmas.{morton_of-cell_of}
 use Rattle.k2_tree.proofs.RisingLemmas.{place_among-at}
-use Rattle.k2_tree.proofs.PrefixLemmas.{prefixes-zero}
+use Rattle.k2_tree.proofs.PrefixLemmas.{div-group, prefixes-zero}
 use Rattle.k2_tree.proofs.LongerLemmas.{div-pow_add, prefixes-from_longer}
 use Rattle.k2_tree.proofs.WidthLemmas.{digits_in-widths_under, widths_under-opened, width_below-within}
 use Rattle.std.proofs.Math.Nat.{div-one}
-use Rattle.std.proofs.lemmas.Nat.{div-mul-add}
 use Rattle.std.proofs.lemmas.List.Elements.{filter_agree, All-head, All-tail, All-nil, All-cons, All-filter, All-weaker}
 use Rattle.std.proofs.lemmas.List.Sums.{sum_by-append}
 use Rattle.std.specs.Prelude.{if◌then◌else◌}
@@ -48,11 +47,7 @@ All-range : (size r start m : ℕ) → size * r ≤ start → start + m ≤ size
     → All (λ q. q / size ≡ r) (range_with_len start m)
 All-range size r start zero low high = All-nil (λ q. q / size ≡ r)
 All-range size r start (suc m) low high =
-    let quotient : start / size ≡ r =
-    let d : ℕ = start - size * r in
-    let e : start ≡ r * size + d = omega arith in
-    ap (λ x. x / size) e ∙ div-mul-add r size d (omega arith) in
-    All-cons (λ q. q / size ≡ r) start (range_with_len (start + 1) m) quotient
+    All-cons (λ q. q / size ≡ r) start (range_with_len (start + 1) m) (div-group size r start low (omega arith))
     (All-range size r (start + 1) m (omega arith) (omega arith))
 
 -- a child has its square's prefix

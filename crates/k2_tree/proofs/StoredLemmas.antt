@@ -53,18 +53,22 @@ length-digits_of size bits = fewer (λ digit. bit_at bits digit == 1) 0 size
     fewer p d zero = omega arith
     fewer p d (suc n) = grind (arith, fewer p (d + 1) n)
 
--- tests that agree on a list keep the same of it, also where it is mapped
-kept_alike : (f : ℕ → ℕ) (g : ℕ → Node) (m : ℕ) (p q : ℕ → Bool) → ((d : ℕ) → g d ≡ node m (f d))
-    → (k d : ℕ) → ((e : ℕ) → d ≤ e → e < d + k → p e ≡ q (f e))
-    → map g (filter p (range_with_len d k)) ≡ map (node m) (filter q (map f (range_with_len d k)))
-kept_alike f g m p q same zero d agree = refl
-kept_alike f g m p q same (suc k) d agree =
-    grind (
-      arith,
-      agree d (omega arith) (omega arith),
-      same d,
-      kept_alike f g m p q same k (d + 1) (λ e low high. agree e (omega arith) (omega arith)),
-    )
+-- a bit of a window
+pub bit_of_window : (bits : List Bool) (start d size : ℕ) → d < size → start + d < length bits
+    → (bit_at (window_of bits start size) d == 1) ≡ get_or bits (start + d) false
+bit_of_window bits start d size small inside =
+    ap (λ v. v == 1) (sym (window_of-inside bits start d 1 size (omega (arith, small))))
+    ∙ sym (get_or_from_slice_get bits (start + d) (window_of bits (start + d) 1 == 1) false
+    (window_of-bit bits (start + d) inside))
+
+-- tests that agree on a range keep the same of it, also where it is mapped
+pub kept_alike : {X : Type 0} (f : ℕ → ℕ) (g h : ℕ → X) (p q : ℕ → Bool) (k d : ℕ)
+    → ((e : ℕ) → d ≤ e → e < d + k → (p e ≡ q (f e)) × (g e ≡ h (f e)))
+    → map g (filter p (range_with_len d k)) ≡ map h (filter q (map f (range_with_len d k)))
+kept_alike f g h p q zero d agree = refl
+kept_alike f g h p q (suc k) d agree =
+    let here = agree d (omega arith) (omega arith) in
+    grind (arith, here.0, here.1, kept_alike f g h p q k (d + 1) (λ e low high. agree e (omega arith) (omega arith)))
 
 -- numbers one after another, moved
 range-moved : (k s n : ℕ) → map (λ d. k + d) (range_with_len s n) ≡ range_with_len (k + s) n
@@ -170,10 +174,7 @@ module _ {height wide : ℕ} {base : Cell} {bits : List Bool} {upper : ℕ} (sto
 
         -- so does the window of the group
         window_bit : (bit_at (window_of bits start size) d == 1) ≡ get_or bits (start + d) false
-        window_bit =
-            ap (λ v. v == 1) (sym (window_of-inside bits start d 1 size (omega (arith, small))))
-            ∙ sym (get_or_from_slice_get bits (start + d) (window_of bits (start + d) 1 == 1) false
-            (window_of-bit bits (start + d) child_inside))
+        window_bit = bit_of_window bits start d size small child_inside
 
       abbrev window : ℕ
       window = window_of bits start size
@@ -183,9 +184,9 @@ module _ {height wide : ℕ} {base : Cell} {bits : List Bool} {upper : ℕ} (sto
       unfolding digits_of child_prefixes
       group_nodes =
           let q : ℕ = prefix_of s in
-          kept_alike (λ d. size * q + d) (child_at w (node_of s)) n (λ d. bit_at window d == 1)
-          (is_in (prefixes n (codes_of tree))) (λ d. refl) size 0
-          (λ d low high. window_bit d (omega arith) ∙ sym (child_told d (omega arith)))
+          kept_alike (λ d. size * q + d) (child_at w (node_of s)) (node n) (λ d. bit_at window d == 1)
+          (is_in (prefixes n (codes_of tree))) size 0
+          (λ d low high. (window_bit d (omega arith) ∙ sym (child_told d (omega arith)), refl))
           ∙ ap (λ xs. map (node n) (filter (is_in (prefixes n (codes_of tree))) xs)) (sym (children_of_prefixes-one size q))
 
       -- those from a digit on

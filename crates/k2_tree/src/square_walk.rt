@@ -1,7 +1,7 @@
 ghost use Rattle.std.specs.Prelude.{◌≡◌, ◌+◌, ◌≤◌, ◌++◌, [], ℕ, List, IfNone, IfSome, length, true};
 ghost use Rattle.track_types.specs.declared.cell.Cell.{Cell};
 ghost use Rattle.k2_tree.specs.Squares.{Node};
-ghost use Rattle.k2_tree.specs.Tree.{Tree, IsTree};
+ghost use Rattle.k2_tree.specs.Tree.{IsTree};
 ghost use Rattle.k2_tree.specs.TreeSquares.{level_of, node_of, prefix_of, IsSquareOf};
 ghost use Rattle.k2_tree.specs.SquareWalk.{AreOpen, IsTakenChild, found_nodes, open_nodes, top_nodes};
 ghost use Rattle.k2_tree.specs.Pruning.{child_nodes, leaf_of, IsLeafOf};

@@ -8,7 +8,7 @@ use Rattle.k2_tree.specs.declared.listing.Spot.{Spot}
 use Rattle.k2_tree.proofs.ListingLemmas.{group_within, length-spots, level_below, spot-small, spots_told, told-more, width_of}
 use Rattle.k2_tree.proofs.listing.next_level.Given.{Over}
 use Rattle.k2_tree.proofs.listing.next_level.Goals as goal
-use Rattle.k2_tree.proofs.listing.next_level.Goals.{After-window-arg-1, After-window-digits}
+use Rattle.k2_tree.proofs.listing.next_level.Goals.{After-window-arg-1}
 
 -- the square that is gone over is one of the level
 here : (g : Over) (c : After-window-arg-1 g) → c.loop-spot.spot-index < length c.args.from.spots.items
@@ -22,12 +22,9 @@ size g c = c.fan_of-fan.ensures.value ∙ ap fan_of c.width_below-width.ensures
 -- their bits are in the tree
 inside : (g : Over) (c : After-window-arg-1 g) → c.loop-spot.start + c.fan_of-fan.result ≤ length c.args.bits.now
 inside g c =
-    let a = c.args in
-    let i : ℕ = c.loop-spot.spot-index in
-    let many = length-spots a.height a.wide a.bits.now c.requires.tree a.from.spots.items a.from.start a.from.below
-    c.requires.level c.requires.inner in
-    let within = group_within a.height a.wide a.bits.now c.requires.tree a.from.spots.items a.from.start a.from.below
-    c.requires.level c.requires.inner i (omega (arith, here g c, many)) in
+    let many = length-spots c.requires.tree c.requires.level c.requires.inner in
+    let within = group_within c.requires.tree c.requires.level c.requires.inner c.loop-spot.spot-index
+    (omega (arith, here g c, many)) in
     omega (arith, within, c.loop-spot.invariant.start, size g c)
 
 pub window-digits-requires-clause-within : goal.window-digits-requires-clause-within
@@ -42,15 +39,16 @@ push_children-requires-clause-few g c =
     omega (arith, small, read)
 
 -- the square is small
+abbrev none : Spot
+none = record { code = 0; column = 0; row = 0 }
+
 small : (g : Over) (c : After-window-arg-1 g)
-    → ((get_or c.as_slice-spot-items.result.now c.loop-spot.spot-index (record { code = 0; column = 0; row = 0 })).code < 2 ^ 58)
-    × ((get_or c.as_slice-spot-items.result.now c.loop-spot.spot-index (record { code = 0; column = 0; row = 0 })).column < 2 ^ 29)
-    × ((get_or c.as_slice-spot-items.result.now c.loop-spot.spot-index (record { code = 0; column = 0; row = 0 })).row < 2 ^ 29)
+    → ((get_or c.as_slice-spot-items.result.now c.loop-spot.spot-index none).code < 2 ^ 58)
+    × ((get_or c.as_slice-spot-items.result.now c.loop-spot.spot-index none).column < 2 ^ 29)
+    × ((get_or c.as_slice-spot-items.result.now c.loop-spot.spot-index none).row < 2 ^ 29)
 small g c =
-    let a = c.args in
-    rw c.as_slice-spot-items.ensures.value (spot-small a.height a.wide a.bits.now c.requires.tree a.from.spots.items
-    a.from.start a.from.below c.requires.level c.requires.inner c.loop-spot.spot-index
-    (record { code = 0; column = 0; row = 0 }) (here g c) c.requires.low)
+    rw c.as_slice-spot-items.ensures.value (spot-small c.requires.tree c.requires.level c.requires.inner
+    c.loop-spot.spot-index none (here g c) c.requires.low)
 
 pub push_children-requires-clause-code : goal.push_children-requires-clause-code
 push_children-requires-clause-code g c = (small g (goal.at.push_children-requires-clause-code g c).After-window-arg-1).0
@@ -69,14 +67,12 @@ loop-spot-preserved g c =
     let a = c.args in
     let i : ℕ = c.loop-spot.spot-index in
     let at = (goal.at.loop-spot-preserved g c).After-window-arg-1 in
-    let none : Spot = record { code = 0; column = 0; row = 0 } in
     let w : ℕ = width_of a.height a.wide a.from.below in
     let before : List Spot = spots_told a.height a.wide a.bits.now a.from.below i in
     let read : List Spot = c.as_slice-spot-items.result.now in
     let bits = c.window-digits.ensures.value ∙ ap (window_of a.bits.now c.loop-spot.start) (size g at)
     ∙ ap (λ p. window_of a.bits.now p (fan_of w)) c.loop-spot.invariant.start in
-    let told = told-more a.height a.wide a.bits.now c.requires.tree a.from.spots.items a.from.start a.from.below
-    c.requires.level c.requires.inner i none (here g at) in
+    let told = told-more c.requires.tree c.requires.level c.requires.inner i none (here g at) in
     record {
       spots = c.in_ok-push_children.ensures.ok
           ∙ ap (λ xs. xs ++ map (child_spot c.width_below-width.result (get_or read i none))
@@ -97,7 +93,6 @@ returns-clause-level g c =
     omega (arith, c.loop-spot-test.false, c.loop-spot.auto.spot-index-end, ap length c.as_slice-spot-items.ensures.value) in
     let w = c.width_below-width.ensures in
     subst (λ w. IsLevelOf a.height a.wide a.bits.now c.loop-spot.spots.items c.loop-spot.start (a.from.below - w)) (sym w)
-    (level_below a.height a.wide a.bits.now c.requires.tree a.from.spots.items a.from.start a.from.below c.requires.level
-    c.requires.inner c.loop-spot.spots.items c.loop-spot.start
+    (level_below c.requires.tree c.requires.level c.requires.inner c.loop-spot.spots.items c.loop-spot.start
     (c.loop-spot.invariant.spots ∙ ap (spots_told a.height a.wide a.bits.now a.from.below) all)
     (omega (arith, c.loop-spot.invariant.start, ap (λ n. fan_of (width_of a.height a.wide a.from.below) * n) all)))

@@ -15,28 +15,23 @@ returns-then-len-eq0-clause-ok g c =
 
 pub loop-level-init : goal.loop-level-init
 loop-level-init g c =
-    let a = c.args in
     let top = c.in_ok-push.ensures.items
     ∙ ap (λ front. front ++ record { code = 0; column = 0; row = 0 } ∷ []) c.new-spots.ensures.items in
     record {
-      level = level-top a.height a.wide a.bits.now c.requires.tree c.push.new.self.items top
+      level = level-top c.requires.tree c.push.new.self.items top
           (omega (arith, c.if-len-eq0.false, c.len.ensures));
-      reads = omega (arith, squares-top a.height a.wide a.bits.now c.requires.tree);
+      reads = omega (arith, squares-top c.requires.tree);
     }
 
 pub returns-in_err-level-clause-cost : goal.returns-in_err-level-clause-cost
 returns-in_err-level-clause-cost g c =
-    let a = c.args in
-    let from = c.loop-level.level in
     let level = c.loop-level.invariant.level in
     omega (
       arith,
       c.in_err-level.ensures.cost,
       c.loop-level.invariant.reads,
-      length-spots a.height a.wide a.bits.now c.requires.tree from.spots.items from.start from.below level
-          c.loop-level-test.true,
-      squares-below a.height a.wide a.bits.now c.requires.tree from.spots.items from.start from.below level
-          c.loop-level-test.true,
+      length-spots c.requires.tree level c.loop-level-test.true,
+      squares-below c.requires.tree level c.loop-level-test.true,
     )
 
 pub loop-level-preserved : goal.loop-level-preserved
@@ -53,17 +48,13 @@ loop-level-preserved g c =
         arith,
         c.in_ok-level.ensures.cost,
         c.loop-level.invariant.reads,
-        length-spots a.height a.wide a.bits.now c.requires.tree from.spots.items from.start from.below level
-            c.loop-level-test.true,
-        squares-below a.height a.wide a.bits.now c.requires.tree from.spots.items from.start from.below level
-            c.loop-level-test.true,
+        length-spots c.requires.tree level c.loop-level-test.true,
+        squares-below c.requires.tree level c.loop-level-test.true,
         ap (λ n. squares_above (widths_under low n) 0 (codes_in (widths_of a.height a.wide) a.bits.now)) next,
       );
     }
 
 pub returns-clause-ok : goal.returns-clause-ok
 returns-clause-ok g c =
-    let a = c.args in
     let level = c.loop-level.level in
-    level-lowest a.height a.wide a.bits.now c.requires.tree level.spots.items level.start level.below
-    c.loop-level.invariant.level (omega (arith, c.loop-level-test.false))
+    level-lowest c.requires.tree level.spots.items level.start level.below c.loop-level.invariant.level (omega (arith, c.loop-level-test.false))

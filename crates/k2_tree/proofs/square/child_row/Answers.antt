@@ -1,4 +1,4 @@
-use Rattle.std.proofs.Common.{◌≡◌, ◌+◌, arith}
+use Rattle.std.proofs.Common.{arith}
 use Rattle.k2_tree.proofs.PlaceLemmas.{before_kept}
 use Rattle.k2_tree.proofs.square.child_row.Goals as goal
 

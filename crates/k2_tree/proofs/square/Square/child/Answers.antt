@@ -1,4 +1,4 @@
-use Rattle.std.proofs.Common.{◌≡◌, ℕ, ◌+◌, ◌-◌, ◌*◌, ◌^◌, ◌≤◌, ap, arith}
+use Rattle.std.proofs.Common.{ℕ, ◌-◌, ap, arith}
 use Rattle.k2_tree.specs.Morton.{morton_column, morton_row}
 use Rattle.k2_tree.specs.Squares.{node}
 use Rattle.k2_tree.proofs.MortonLemmas.{morton_column-lt, morton_row-lt}

@@ -12,14 +12,14 @@ pub returns-clause-codes : goal.returns-clause-codes
 returns-clause-codes g c =
     let s = c.self.inside in
     c.in_ok-codes.ensures.ok ∙ ap (map spot_code) c.deref.ensures.value
-    ∙ spots-codes s.height s.wide s.bits c.self.invariant.tree s.base c.in_ok-spots.spots.items c.in_ok-spots.ensures.ok
+    ∙ spots-codes c.self.invariant.tree s.base c.in_ok-spots.spots.items c.in_ok-spots.ensures.ok
     ∙ ap codes_of c.self.view_is
 
 pub returns-clause-cells : goal.returns-clause-cells
 returns-clause-cells g c =
     let s = c.self.inside in
     c.in_ok-cells.ensures.ok ∙ ap (map (spot_cell s.base)) c.deref-2.ensures.value
-    ∙ spots-cells s.height s.wide s.bits c.self.invariant.tree s.base c.in_ok-spots.spots.items c.in_ok-spots.ensures.ok
+    ∙ spots-cells c.self.invariant.tree s.base c.in_ok-spots.spots.items c.in_ok-spots.ensures.ok
     ∙ ap (λ (t : Tree). t.cells) c.self.view_is
 
 -- no more squares are gone over than the tree has
@@ -28,7 +28,7 @@ reads : (g : Over) (c : After-spots_in g)
 reads g c =
     let s = c.self.inside in
     subst (λ t. c.spots_in.new.steps ≤ c.args.steps.now + window_reads * length (squares_of t)) c.self.view_is
-    (listing-reads s.height s.wide s.bits c.self.invariant.tree s.base _ _ c.spots_in.ensures.cost)
+    (listing-reads c.self.invariant.tree s.base _ _ c.spots_in.ensures.cost)
 
 pub returns-in_err-spots-clause-cost : goal.returns-in_err-spots-clause-cost
 returns-in_err-spots-clause-cost g c = reads g (goal.at.returns-in_err-spots-clause-cost g c).After-spots_in

@@ -13,7 +13,7 @@ use Rattle.k2_tree.proofs.PrefixLemmas.{fan_pos}
 use Rattle.k2_tree.proofs.StoredLemmas.{child_inside, group_nodes, group_stands, length-digits_of}
 use Rattle.k2_tree.proofs.tree.K2Tree.pending_children.Goals as goal
 use Rattle.k2_tree.proofs.tree.K2Tree.pending_children.Given.{Over}
-use Rattle.k2_tree.proofs.tree.K2Tree.pending_children.Goals.{After-number, After-group_start-place, After-rank1-number}
+use Rattle.k2_tree.proofs.tree.K2Tree.pending_children.Goals.{After-number, After-rank1-number}
 use Rattle.k2_tree.proofs.tree.K2Tree.pending_children.Goals.{After-new}
 
 -- the square is one of the tree that the bits tell
