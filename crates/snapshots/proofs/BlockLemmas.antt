@@ -7,11 +7,11 @@ use Rattle.std.proofs.lemmas.List.FromFn.{get_or-range_with_len, length-range_wi
 use Rattle.std.proofs.lemmas.Option.{get_or_from_slice_get, slice_get_within}
 use Rattle.std.specs.Prelude.{slice_get, slice_index_or, slice_index}
 use Rattle.packed_bits.specs.Bits.{ones_of}
-use Rattle.bit_rank.specs.Bits.{rank_of}
+use Rattle.bit_rank.specs.Bits.{rank_of, select_of}
 use Rattle.bit_rank.proofs.RankLemmas.{rank_of-step, rank_of-le-ones_of}
 use Rattle.object_perm.specs.Permutation.{inverse_of}
 use Rattle.track_types.specs.declared.cell.Cell.{Cell}
-use Rattle.snapshots.specs.View.{SnapshotView, block_of, block_with, leaf_at, rank_in, tree_in}
+use Rattle.snapshots.specs.View.{SnapshotView, block_at, block_by, block_of, block_with, leaf_at, rank_in, tree_in}
 use Rattle.snapshots.specs.Sound.{IsSnapshot}
 use Rattle.snapshots.specs.Stored.{starts_of}
 use Rattle.snapshots.specs.declared.anchored.Anchored.{Anchored}
@@ -59,24 +59,15 @@ same_block a b index offset cell from len =
     with_fields : ℕ → ℕ → Cell → ℕ → ℕ → Anchored
     with_fields i o c f l = record { index = i; offset = o; cell = c; from = f; len = l }
 
--- what was read of an object at a place among the present ones, at a place in leaf order
-pub record IsRead (view : SnapshotView) (index rank : ℕ) (cell : Cell) (block : Anchored) : Type 0 where
-  pub number : block.index ≡ index
-  pub begins : block.offset ≡ slice_index view.parts.offsets rank
-  pub stands : block.cell ≡ cell
-  pub logged : block.from ≡ view.start + sum (take rank view.parts.lengths)
-  pub long : block.len ≡ slice_index view.parts.lengths rank
-
--- it is the block, where the cell is that of the place's leaf
-pub block_read : (view : SnapshotView) (index rank place : ℕ) (cell : Cell) (block : Anchored)
-    → IsRead view index rank cell block
-    → slice_get (tree_in view).cells (leaf_at view place) ≡ Some cell
-    → block ≡ block_with view index rank place
-block_read view index rank place cell block read found =
-    let here : cell ≡ slice_index_or (tree_in view).cells (leaf_at view place) view.frame.base =
-    sym (get_or_from_slice_get (tree_in view).cells (leaf_at view place) cell view.frame.base found) in
-    same_block block (block_with view index rank place) read.number read.begins (read.stands ∙ here) read.logged
-    read.long
+-- the block at a place is what is read of its object, where the cell is that of the place's leaf
+pub block_at-read : (view : SnapshotView) (index rank place : ℕ) (cell : Cell)
+    → index ≡ select_of view.parts.present (rank + 1) → rank ≡ slice_index view.parts.perm place
+    → slice_get (tree_in view).cells (leaf_at view place) ≡ Some cell → block_by view index rank cell ≡ block_at view place
+block_at-read view index rank place cell selected ranked found =
+    let here = get_or_from_slice_get (tree_in view).cells (leaf_at view place) cell view.frame.base found in
+    ap (λ i. block_by view i rank cell) selected
+    ∙ ap (block_by view (select_of view.parts.present (rank + 1)) rank) (sym here)
+    ∙ ap (λ r. block_with view (select_of view.parts.present (r + 1)) r place) ranked
 
 -- a present object has its block
 pub block_found : (view : SnapshotView) (index : ℕ) (block : Anchored) → slice_get view.parts.present index ≡ Some true

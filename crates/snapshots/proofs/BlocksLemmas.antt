@@ -18,7 +18,7 @@ use Rattle.k2_tree.specs.TreeBits.{is_in, Rises}
 use Rattle.k2_tree.proofs.RisingLemmas.{same_from_rising}
 use Rattle.track_types.specs.declared.cell.Cell.{Cell}
 use Rattle.snapshots.specs.View.{SnapshotView, block_at, block_of, block_with, blocks_in, is_at, leaf_at, objects_at}
-use Rattle.snapshots.specs.View.{place_in, places_from, present_block, rank_in}
+use Rattle.snapshots.specs.View.{place_in, places_from, present_block, rank_in, IsPlaced}
 use Rattle.snapshots.specs.Objects.{blocks_of, objects_of_leaves}
 use Rattle.snapshots.specs.Sound.{IsSnapshot}
 use Rattle.snapshots.proofs.BlockLemmas.{block_found, rank_within}
@@ -112,17 +112,21 @@ index_at-place_in view index is within on =
           (record { one = read; rank = refl }),
     )
 
--- so the block of a present object is the one at its place
-pub block_of-place_in : (view : SnapshotView) (index : ℕ) → IsSnapshot view → slice_get view.parts.present index ≡ Some true
-    → (place_in view index < length view.parts.perm) × (block_of view index ≡ Some (block_at view (place_in view index)))
-block_of-place_in view index is present =
+-- so its block is the one at its place
+pub IsPlaced-present : (view : SnapshotView) (index : ℕ) → IsSnapshot view → slice_get view.parts.present index ≡ Some true
+    → IsPlaced view index (place_in view index) (rank_in view index)
+IsPlaced-present view index is present =
     let inside = slice_get_within view.parts.present index true present in
     let on = get_or_from_slice_get view.parts.present index true false present in
-    let at = index_at-place_in view index is (omega (arith, inside, is.shaped.presence)) on in (
-      at.0,
-      sym (block_found view index (block_at view (place_in view index)) present
-          (block_back view (place_in view index) is at.0 ∙ ap (present_block view) at.1)),
-    )
+    let at = index_at-place_in view index is (omega (arith, inside, is.shaped.presence)) on in
+    let stands = at-inverse_of view.parts.perm (rank_in view index) at.0 in
+    record {
+      within = at.0;
+      ranked = sym stands;
+      selected = sym at.1 ∙ ap (λ rank. select_of view.parts.present (rank + 1)) stands;
+      block = sym (block_found view index (block_at view (place_in view index)) present
+          (block_back view (place_in view index) is at.0 ∙ ap (present_block view) at.1));
+    }
 
 -- the objects of a leaf in leaf order are those in order that are in it
 pub indices_in-by_object : (view : SnapshotView) (leaf : ℕ) → IsSnapshot view

@@ -1,5 +1,5 @@
 -- What bounds the logs of a period gives what is found by reading them.
-use Rattle.std.proofs.Common.{◌≡◌, ℕ, ◌<◌, ℤ, ◌+ℤ◌, ◌-ℤ◌, List, get_or, length, map, max, ap, subst, sym, ◌∙◌, arith}
+use Rattle.std.proofs.Common.{◌≡◌, ℕ, ◌<◌, ◌+ℤ◌, List, get_or, length, map, max, ap, subst, sym, ◌∙◌, arith}
 use Rattle.std.specs.Prelude.{fold, slice_index}
 use Rattle.std.specs.Global.{Vec}
 use Rattle.std.proofs.lemmas.Int.{ints}

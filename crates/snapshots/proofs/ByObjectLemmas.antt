@@ -1,13 +1,12 @@
 -- The blocks of a period by object, and where each of them stands in leaf order.
 use Rattle.std.proofs.Common.{◌≡◌, ◌≢◌, ℕ, zero, suc, ◌+◌, ◌*◌, ◌<◌, ◌≤◌, Bool, true, false, List, [], ◌∷◌, ◌++◌, length, get_or, set, map, Option, None, Some, inl, inr, refl, ap, sym, ◌∙◌, arith, subst}
-use Rattle.std.specs.Prelude.{slice_get, slice_index, slice_index_or}
+use Rattle.std.specs.Prelude.{slice_index, slice_index_or}
 use Rattle.std.specs.List.{cons_option, filter_map, range_with_len, sum_by}
 use Rattle.std.proofs.lemmas.Bool.{cases_Bool, cases_lt}
 use Rattle.std.proofs.lemmas.List.{append-nil, same_lists, get_or-map, get_or-set_same, get_or-set_other, length-map, length-set, map-append}
 use Rattle.std.proofs.lemmas.List.Sums.{sum_by-cons}
-use Rattle.std.proofs.lemmas.List.FromFn.{get_or-map-range_with_len, length-map-range_with_len}
+use Rattle.std.proofs.lemmas.List.FromFn.{get_or-map-range_with_len}
 use Rattle.std.proofs.lemmas.Option.{slice_get-get_or}
-use Rattle.list_laws.proofs.FilterLemmas.{filter-all}
 use Rattle.list_laws.proofs.RangeLemmas.{filter_map-range_more}
 use Rattle.bit_rank.specs.Bits.{rank_of, select_of}
 use Rattle.bit_rank.specs.Cost.{window_reads}
@@ -15,9 +14,8 @@ use Rattle.bit_rank.proofs.RankLemmas.{rank_of-all}
 use Rattle.object_perm.specs.Permutation.{inverse_of, PermutesPlaces}
 use Rattle.object_perm.proofs.InverseLemmas.{at-inverse_of}
 use Rattle.object_perm.proofs.OntoLemmas.{inverse_of-within}
-use Rattle.k2_tree.specs.Pruning.{on_areas, square_count}
 use Rattle.k2_tree.specs.TreeSquares.{squares_of}
-use Rattle.snapshots.specs.IndexCost.{blocks_reads, everywhere}
+use Rattle.snapshots.specs.IndexCost.{blocks_reads}
 use Rattle.snapshots.specs.Cost.{block_reads}
 use Rattle.snapshots.specs.Found.{ArePut}
 use Rattle.snapshots.specs.Objects.{WeighSame}
@@ -28,8 +26,7 @@ use Rattle.snapshots.specs.View.{SnapshotView, all_blocks, block_at, block_of, p
 use Rattle.snapshots.specs.declared.anchored.Anchored.{Anchored}
 use Rattle.snapshots.proofs.BlockFactsLemmas.{present_block-is}
 use Rattle.snapshots.proofs.BlocksLemmas.{block_back}
-use Rattle.snapshots.proofs.LeafOrderLemmas.{by_leaf-weighs}
-use Rattle.snapshots.proofs.OnesLemmas.{first_ones-at, first_ones-begin, first_ones-here, first_ones-none}
+use Rattle.snapshots.proofs.OnesLemmas.{first_ones-at, first_ones-begin, first_ones-here, first_ones-none, length-first_ones}
 
 -- what is made of the places of ones alone
 module _ {X : Type 0} (make : ℕ → Option X) (f : ℕ → X) (bits : List Bool)
@@ -69,14 +66,14 @@ module _ (view : SnapshotView) (is : IsSnapshot view) where
   length-all_blocks =
       ap length all_blocks-present
       ∙ length-map (first_ones view.parts.present (length view.parts.perm)) (present_block view)
-      ∙ length-map-range_with_len (λ rank. select_of view.parts.present (rank + 1)) 0 (length view.parts.perm)
+      ∙ length-first_ones view.parts.present (length view.parts.perm)
 
   -- the block at a place by object
   pub all_blocks-at : (rank : ℕ) (d : Anchored) → rank < length view.parts.perm
       → get_or (all_blocks view) rank d ≡ present_block view (select_of view.parts.present (rank + 1))
   all_blocks-at rank d within =
       let count : ℕ = length view.parts.perm in
-      let long = length-map-range_with_len (λ r. select_of view.parts.present (r + 1)) 0 count in
+      let long = length-first_ones view.parts.present count in
       ap (λ (xs : List Anchored). get_or xs rank d) all_blocks-present
       ∙ get_or-map (present_block view) (first_ones view.parts.present count) rank 0 d (omega (arith, long))
       ∙ ap (present_block view) (first_ones-at view.parts.present count rank 0 within)
@@ -146,7 +143,4 @@ pub blocks_reads-listed : (view : SnapshotView) (steps before : ℕ) → IsSnaps
     → steps ≤ before + (window_reads * length (squares_of (tree_in view)) + block_reads * length view.parts.perm)
     → steps ≤ before + blocks_reads view
 unfolding blocks_reads
-blocks_reads-listed view steps before is reads =
-    let all : square_count everywhere (tree_in view) ≡ length (squares_of (tree_in view)) =
-    ap length (filter-all (on_areas everywhere (tree_in view)) (squares_of (tree_in view)) (λ _ _ _. refl)) in
-    omega (arith, reads, all, length-all_blocks view is)
+blocks_reads-listed view steps before is reads = omega (arith, reads, length-all_blocks view is)

@@ -4,6 +4,7 @@ use Rattle.std.specs.Prelude.{sum}
 use Rattle.std.specs.List.{range_with_len, sum_by}
 use Rattle.std.proofs.lemmas.Bool.{cases_lt}
 use Rattle.std.specs.Global.{Box}
+use Rattle.std.proofs.Math.Nat.{div-le_self}
 use Rattle.std.proofs.Math.Seq.{get_or-append_seam}
 use Rattle.std.proofs.lemmas.List.{get_or_append_left, length-append, map-id, take_all}
 use Rattle.std.proofs.lemmas.List.Sums.{sum_by_more, sum_by_more_le}
@@ -12,6 +13,7 @@ use Rattle.std.proofs.lemmas.List.FromFn.{sum_by-map-range_with_len_more}
 use Rattle.list_laws.proofs.FirstLemmas.{first_of_range-all, first_of_range-at, first_of_range-none}
 use Rattle.list_laws.proofs.SumLemmas.{sum_by-range_next}
 use Rattle.track_types.specs.Frame.{periods_of}
+use Rattle.track_types.specs.declared.limit.TheConstants.{MAX_SPAN}
 use Rattle.track_types.specs.declared.parts.Parts.{Parts}
 use Rattle.rule_store.specs.View.{RulesView}
 use Rattle.snapshots.specs.Flaws.{IsSnapFaultFor}
@@ -27,6 +29,7 @@ use Rattle.snapshots.specs.declared.track_tree.TrackTree.{TrackTree}
 use Rattle.snapshots.proofs.GetterLemmas.{snapshot-at}
 use Rattle.snapshots.specs.View.{SnapshotView}
 use Rattle.snapshots.specs.declared.fault.SnapFault.{SnapFault}
+use Rattle.snapshots.specs.declared.judged.Judged.{Judged}
 use Rattle.snapshots.specs.declared.fault.SnapFault.TheVariants as fault
 
 -- what is known once the snapshots of some periods were judged: they are sound, and none of their blocks has a flaw
@@ -35,6 +38,13 @@ pub record IsJoining (parts : Parts) (count before steps : ℕ) : Type 0 where
   pub none : (number : ℕ) → number < count → join_flaw parts number ≡ None
   pub reads : steps ≤ before + (start_in parts count
       + sum_by (λ number. blocks_reads (snapshot_in parts number)) (range_with_len 0 count))
+
+-- and these are their speeds, and what is kept of their tracks
+pub record IsJoined (parts : Parts) (count before steps : ℕ) (speeds : List ℕ) (tracks : List (Option (Box TrackTree)))
+    : Type 0 where
+  pub joining : IsJoining parts count before steps
+  pub speeds_are : speeds ≡ map (speed_of parts) (range_with_len 0 count)
+  pub tracks_are : AreTracks parts count tracks
 
 module _ (parts : Parts) (rules : RulesView) (snaps : List SnapshotView) (of : AreOf parts rules snaps) where
   -- the snapshot that is read
@@ -47,6 +57,12 @@ module _ (parts : Parts) (rules : RulesView) (snaps : List SnapshotView) (of : A
   -- there are as many as periods
   pub length-snaps : length snaps ≡ periods_of parts.frame
   length-snaps = ap length of.snaps_are ∙ length-map-range_with_len (snapshot_in parts) 0 (periods_of parts.frame)
+
+  -- and these are few
+  pub few-snaps : length snaps ≤ MAX_SPAN + 1
+  few-snaps =
+      let short : parts.frame.span ≤ MAX_SPAN = of.shaped.header.short in
+      omega (arith, length-snaps, short, div-le_self parts.frame.span parts.frame.period)
 
   -- the logs of a period stand after those of the earlier ones
   pub start_in-more : (number : ℕ) → number < periods_of parts.frame
@@ -165,7 +181,7 @@ module _ (parts : Parts) (rules : RulesView) (snaps : List SnapshotView) (number
       (omega (arith, turn.within))
 
   -- and the speed of its blocks is one more of the periods' speeds
-  pub turn-speeds : (speeds : List ℕ) (speed : ℕ) → speeds ≡ map (speed_of parts) (range_with_len 0 number)
+  turn-speeds : (speeds : List ℕ) (speed : ℕ) → speeds ≡ map (speed_of parts) (range_with_len 0 number)
       → speed ≡ blocks_speed rules item
       → speeds ++ speed ∷ [] ≡ map (speed_of parts) (range_with_len 0 (number + 1))
   turn-speeds speeds speed so_far found =
@@ -175,7 +191,7 @@ module _ (parts : Parts) (rules : RulesView) (snaps : List SnapshotView) (number
       ∙ sym (map-range_with_len_more (speed_of parts) 0 number number (omega arith))
 
   -- and what is kept of its tracks is one more
-  pub turn-tracks : (tracks : List (Option (Box TrackTree))) (kept : Option (Box TrackTree))
+  turn-tracks : (tracks : List (Option (Box TrackTree))) (kept : Option (Box TrackTree))
       → AreTracks parts number tracks
       → IsKept item.frame rules (blocks_by_leaf item) kept → IsOfPeriod number kept
       → AreTracks parts (number + 1) (tracks ++ kept ∷ [])
@@ -185,30 +201,20 @@ module _ (parts : Parts) (rules : RulesView) (snaps : List SnapshotView) (number
       (subst (λ r. IsKept item.frame r (blocks_by_leaf item) kept) turn.of.rules_are its) in
       record {
         long = omega (arith, length-append tracks (kept ∷ []), are.long);
-        kept = λ k below. elim (cases_lt k number) [
-          | inl less ↦
-              subst (IsKept parts.frame (rules_in parts) (blocks_by_leaf (snapshot_in parts k)))
-              (sym (get_or_append_left tracks (kept ∷ []) None k (omega (arith, are.long)))) (are.kept k less)
-          | inr most ↦
-              let same : number ≡ k = omega arith in
-              let last : get_or (tracks ++ kept ∷ []) k None ≡ kept =
-              ap (λ n. get_or (tracks ++ kept ∷ []) n None) (sym same ∙ sym are.long)
-              ∙ get_or-append_seam tracks kept [] None in
-              subst (IsKept parts.frame (rules_in parts) (blocks_by_leaf (snapshot_in parts k))) (sym last)
-              (subst (λ n. IsKept parts.frame (rules_in parts) (blocks_by_leaf (snapshot_in parts n)) kept) same here)
-        ];
-        numbers = λ k below. elim (cases_lt k number) [
-          | inl less ↦
-              subst (IsOfPeriod k) (sym (get_or_append_left tracks (kept ∷ []) None k (omega (arith, are.long))))
-              (are.numbers k less)
-          | inr most ↦
-              let same : number ≡ k = omega arith in
-              let last : get_or (tracks ++ kept ∷ []) k None ≡ kept =
-              ap (λ n. get_or (tracks ++ kept ∷ []) n None) (sym same ∙ sym are.long)
-              ∙ get_or-append_seam tracks kept [] None in
-              subst (IsOfPeriod k) (sym last) (subst (λ n. IsOfPeriod n kept) same numbered)
-        ];
+        kept = each (λ n. IsKept parts.frame (rules_in parts) (blocks_by_leaf (snapshot_in parts n))) are.kept here;
+        numbers = each IsOfPeriod are.numbers numbered;
       }
+    where
+      each : (P : ℕ → Option (Box TrackTree) → Type 0) → ((k : ℕ) → k < number → P k (get_or tracks k None))
+          → P number kept → (k : ℕ) → k < number + 1 → P k (get_or (tracks ++ kept ∷ []) k None)
+      each P so_far last k below = elim (cases_lt k number) [
+        | inl less ↦ subst (P k) (sym (get_or_append_left tracks (kept ∷ []) None k (omega (arith, are.long)))) (so_far k less)
+        | inr most ↦
+            let same : number ≡ k = omega arith in
+            let stands : get_or (tracks ++ kept ∷ []) k None ≡ kept =
+            ap (λ n. get_or (tracks ++ kept ∷ []) n None) (sym same ∙ sym are.long) ∙ get_or-append_seam tracks kept [] None in
+            subst (P k) (sym stands) (subst (λ n. P n kept) same last)
+      ]
 
   module _ (before steps : ℕ) (is : IsJoining parts number before steps) where
     -- its flaw is the first
@@ -229,7 +235,20 @@ module _ (parts : Parts) (rules : RulesView) (snaps : List SnapshotView) (number
       turn-reads = reads-so_far parts rules snaps turn.of number before steps after is turn.within reads_in
 
       -- one period more
-      pub turn-more : IsSnapshot item → blocks_flaw rules item ≡ None → IsJoining parts (number + 1) before after
+      turn-more : IsSnapshot item → blocks_flaw rules item ≡ None → IsJoining parts (number + 1) before after
       turn-more sound none =
           joining-more parts rules snaps turn.of number before steps after is turn.within
           (subst IsSnapshot turn.item_is sound) (sym turn-flaw_is ∙ none) reads_in
+
+  -- with what was found of it
+  pub turn-joined : (before steps after : ℕ) (speeds next : List ℕ) (tracks nexts : List (Option (Box TrackTree)))
+      (found : Judged) → IsJoined parts number before steps speeds tracks
+      → after ≤ steps + (blocks_reads item + sum item.parts.lengths) → IsSnapshot item → blocks_flaw rules item ≡ None
+      → found.speed ≡ blocks_speed rules item → IsKept item.frame rules (blocks_by_leaf item) found.tracks
+      → IsOfPeriod number found.tracks → next ≡ speeds ++ found.speed ∷ [] → nexts ≡ tracks ++ found.tracks ∷ []
+      → IsJoined parts (number + 1) before after next nexts
+  turn-joined before steps after speeds next tracks nexts found is reads sound none fast kept numbered more mores = record {
+    joining = turn-more before steps is.joining after reads sound none;
+    speeds_are = more ∙ turn-speeds speeds found.speed is.speeds_are fast;
+    tracks_are = subst (AreTracks parts (number + 1)) (sym mores) (turn-tracks tracks found.tracks is.tracks_are kept numbered);
+  }

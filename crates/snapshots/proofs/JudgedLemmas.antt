@@ -6,15 +6,15 @@ use Rattle.track_types.specs.Flaws.{flaw_in}
 use Rattle.track_types.specs.Frame.{instants_in, wide_of}
 use Rattle.track_types.specs.declared.flaw.Section.TheVariants.{Lasts}
 use Rattle.track_types.specs.declared.flaw.Kind.TheVariants.{Cells}
-use Rattle.track_types.specs.declared.frame.Frame.{Frame}
 use Rattle.track_types.specs.declared.period_parts.PeriodParts.{PeriodParts}
-use Rattle.k2_tree.specs.Tree.{Tree, codes_in, tree_of}
+use Rattle.k2_tree.specs.Tree.{Tree, codes_in, tree_bits, tree_of}
 use Rattle.k2_tree.specs.Flaws.{StandsFor}
 use Rattle.k2_tree.proofs.CellLemmas.{tree_of-StandsFor}
 use Rattle.snapshots.specs.View.{SnapshotView, tree_in, view_with}
 use Rattle.snapshots.specs.Flaws.{bits_flaw, flaw_of, have_cells, offset_flaw, perm_flaw, IsShapedView}
-use Rattle.snapshots.specs.Stored.{parts_with, starts_in, starts_of, tree_stored, snapshot_view, IsStoredSnapshot}
+use Rattle.snapshots.specs.Stored.{blocks_stored, frame_stored, objects_stored, parts_with, starts_in, starts_of, tree_stored, snapshot_view, IsStoredSnapshot}
 use Rattle.snapshots.specs.declared.blocks.Blocks.{Blocks}
+use Rattle.snapshots.specs.declared.period_store.PeriodStore.{PeriodStore}
 use Rattle.snapshots.proofs.SoundLemmas.{IsSoundPeriod-flawless}
 
 -- the anchors and the tree have no flaw, and it is known whether the last objects fit the leaves
@@ -70,24 +70,39 @@ tree_stored-is view tree None stands told kept =
 tree_stored-is view tree (Some blocks) stands told kept =
     tree_of-StandsFor view.frame.height (wide_of view.frame) view.frame.base view.parts.tree tree stands ∙ sym kept
 
--- what is stored of parts without a flaw, with the view's numbers
-module _ (view : SnapshotView) (tree : Tree) (frame : Frame) (number objects start : ℕ) (blocks : Option (Box Blocks))
-    (same : view_with frame number objects start view.parts ≡ view)
-    (stands : StandsFor view.frame.height (wide_of view.frame) view.frame.base view.parts.tree tree)
-    (told : parts_with view.objects blocks ≡ view.parts) (kept : IfSome blocks (λ it. it.value.tree ≡ tree)) where
-  -- tells them
-  pub snapshot_view-parts : snapshot_view frame number objects start blocks ≡ view
-  snapshot_view-parts =
-      let count : objects ≡ view.objects = ap (λ (v : SnapshotView). v.objects) same in
-      ap (view_with frame number objects start) (ap (λ n. parts_with n blocks) count ∙ told) ∙ same
+-- what is stored of a view's parts, with its numbers, once its tree and its permutation are made
+pub record IsStoredAs (view : SnapshotView) (tree : Tree) (perm : List ℕ) (store : PeriodStore) (number start : ℕ) : Type 0 where
+  pub shaped : IsShapedView view
+  pub stands : StandsFor view.frame.height (wide_of view.frame) view.frame.base view.parts.tree tree
+  pub permuted : perm ≡ view.parts.perm
+  pub header : frame_stored store ≡ view.frame
+  pub numbered : number ≡ view.number
+  pub begins : start ≡ view.start
+  pub objects : objects_stored store ≡ length view.parts.present
+  pub parts : parts_with (length view.parts.present) (blocks_stored store) ≡ with_checked view.parts (tree_bits tree) perm
+  pub kept : IfSome (blocks_stored store) (λ it. it.value.tree ≡ tree)
 
-  -- and is stored as it should be
-  pub IsStoredSnapshot-flawless : IsShapedView view → flaw_of view ≡ None
-      → starts_in blocks ≡ starts_of view.start view.parts.lengths
-      → IsStoredSnapshot (snapshot_view frame number objects start blocks) (tree_stored frame blocks) (starts_in blocks)
-  IsStoredSnapshot-flawless shaped none begin =
-      subst (λ v. IsStoredSnapshot v (tree_stored v.frame blocks) (starts_in blocks)) (sym snapshot_view-parts) (record {
-        is = record { shaped = shaped; sound = IsSoundPeriod-flawless view shaped none };
-        tree_is = tree_stored-is view tree blocks stands told kept;
+module _ (view : SnapshotView) (tree : Tree) (perm : List ℕ) (store : PeriodStore) (number start : ℕ)
+    (is : IsStoredAs view tree perm store number start) where
+  -- it is these parts
+  told : parts_with view.objects (blocks_stored store) ≡ view.parts
+  told =
+      ap (λ n. parts_with n (blocks_stored store)) (sym is.shaped.presence) ∙ is.parts
+      ∙ ap (λ bits. with_checked view.parts bits perm) is.stands.same ∙ ap (with_checked view.parts view.parts.tree) is.permuted
+
+  -- so it tells the view
+  pub snapshot_view-parts : snapshot_view (frame_stored store) number (objects_stored store) start (blocks_stored store) ≡ view
+  snapshot_view-parts =
+      rw (is.header, is.numbered, is.begins, is.objects, is.shaped.presence) (ap (view_with view.frame view.number view.objects view.start) told)
+
+  -- and is stored as it should be, where the view has no flaw
+  pub IsStoredSnapshot-flawless : flaw_of view ≡ None → starts_in (blocks_stored store) ≡ starts_of view.start view.parts.lengths
+      → IsStoredSnapshot (snapshot_view (frame_stored store) number (objects_stored store) start (blocks_stored store))
+      (tree_stored (frame_stored store) (blocks_stored store)) (starts_in (blocks_stored store))
+  IsStoredSnapshot-flawless none begin =
+      subst (λ v. IsStoredSnapshot v (tree_stored v.frame (blocks_stored store)) (starts_in (blocks_stored store)))
+      (sym snapshot_view-parts) (record {
+        is = record { shaped = is.shaped; sound = IsSoundPeriod-flawless view is.shaped none };
+        tree_is = tree_stored-is view tree (blocks_stored store) is.stands told is.kept;
         begin = begin;
       })

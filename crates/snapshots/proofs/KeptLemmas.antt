@@ -42,7 +42,7 @@ use Rattle.rule_store.specs.Entry.{entry_of}
 use Rattle.log_bounds.specs.Bounds.{cell_before}
 use Rattle.snapshots.specs.Parts.{block_log}
 use Rattle.snapshots.specs.Sound.{IsBlock, IsSnapshot}
-use Rattle.snapshots.specs.SoundParts.{AreSoundLogs, IsInGridAt, IsSoundLog}
+use Rattle.snapshots.specs.SoundParts.{IsInGridAt, IsSoundLog}
 use Rattle.log_bounds.specs.Bounds.{log_box, symbol_box, placed_boxes}
 use Rattle.snapshots.specs.Tracks.{blocks_by_leaf, track_box}
 use Rattle.snapshots.specs.TrackTree.{morton_of_block, level_count, narrow_count, block_places}

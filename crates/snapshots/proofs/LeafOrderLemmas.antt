@@ -1,6 +1,6 @@
 -- The blocks of a period in leaf order: a walk over all leaves comes by them, and each block of the period is one of
 -- them.
-use Rattle.std.proofs.Common.{◌≡◌, ℕ, ◌+◌, ◌<◌, true, List, [], ◌∷◌, ◌++◌, length, get_or, map, All, refl, ap, sym, subst, ◌∙◌, arith}
+use Rattle.std.proofs.Common.{◌≡◌, ℕ, ◌+◌, ◌<◌, Bool, true, List, [], ◌∷◌, ◌++◌, length, get_or, map, All, refl, ap, sym, subst, ◌∙◌, arith}
 use Rattle.std.specs.List.{enumerate_from, flat_map, list_all, range_with_len}
 use Rattle.std.specs.List.Sorted.{IsNonDecreasingBy}
 use Rattle.std.proofs.lemmas.List.Elements.{All-map}
@@ -10,9 +10,9 @@ use Rattle.list_laws.proofs.KeyRangeLemmas.{by_key-sorted}
 use Rattle.list_laws.proofs.MapLemmas.{map-flat_map}
 use Rattle.bit_rank.proofs.RankLemmas.{rank_of-le}
 use Rattle.track_types.specs.declared.cell.Cell.{Cell}
+use Rattle.track_types.specs.declared.cell_box.CellBox.{CellBox}
 use Rattle.k2_tree.specs.Tree.{tree_widths}
 use Rattle.k2_tree.specs.Pruning.{digits_left, kept_leaves, leaves_of, passes, passes_at}
-use Rattle.snapshots.specs.IndexCost.{everywhere}
 use Rattle.snapshots.specs.Objects.{blocks_of, passing_blocks, WeighSame}
 use Rattle.snapshots.specs.Sound.{IsBlock, IsSnapshot}
 use Rattle.snapshots.specs.Tracks.{blocks_by_leaf}
@@ -22,13 +22,17 @@ use Rattle.snapshots.proofs.BlockFactsLemmas.{IsBlock-from_block_of, WeighSame-o
 use Rattle.snapshots.proofs.BlockLemmas.{leaf_known}
 use Rattle.snapshots.proofs.BlocksLemmas.{block_at-is_block, blocks_of-objects}
 
+-- the test that keeps each box
+abbrev everywhere : CellBox → Bool
+everywhere area = true
+
 -- a test that is true of all
 list_all-true : {X : Type 0} (xs : List X) → list_all (λ _. true) xs ≡ true
 list_all-true [] = refl
 list_all-true (x ∷ xs) = grind (arith, list_all-true xs)
 
 -- each leaf is kept where each square is
-pub all_kept : (view : SnapshotView) → kept_leaves everywhere (tree_in view) ≡ leaves_of (tree_in view)
+all_kept : (view : SnapshotView) → kept_leaves everywhere (tree_in view) ≡ leaves_of (tree_in view)
 unfolding passes passes_at
 all_kept view =
     filter-all (λ leaf. passes_at everywhere (tree_in view) leaf.1) (leaves_of (tree_in view))
@@ -57,7 +61,7 @@ module _ (view : SnapshotView) (is : IsSnapshot view) where
       rw (a, b) (rank_of-le view.parts.lasts i j low)
 
   -- a walk over all leaves comes by the blocks in leaf order
-  pub by_leaf-all : blocks_of view (kept_leaves everywhere (tree_in view)) ≡ blocks_by_leaf view
+  by_leaf-all : blocks_of view (kept_leaves everywhere (tree_in view)) ≡ blocks_by_leaf view
   by_leaf-all =
       let n : ℕ = length view.parts.perm in
       let cells : List Cell = (tree_in view).cells in

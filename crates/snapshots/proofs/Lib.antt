@@ -16,6 +16,7 @@ mod PlaceLemmas
 mod PlacesLemmas
 mod ObjectsLemmas
 mod OnesLemmas
+mod FoundLemmas
 mod AheadLemmas
 mod ChosenLemmas
 pub mod LogsLemmas

@@ -1,5 +1,5 @@
 -- The symbols of a log, read one after the other.
-use Rattle.std.proofs.Common.{◌≡◌, ℕ, ◌+◌, ◌-◌, ◌*◌, ◌^◌, ◌<◌, ◌≤◌, ℤ, pos, neg_ℤ, ◌+ℤ◌, ◌≤ℤ◌, ◌<ℤ◌, eqb, Bool, true, false, List, [], ◌∷◌, ◌++◌, length, take, drop, None, Some, inl, inr, refl, ap, sym, ◌∙◌, arith}
+use Rattle.std.proofs.Common.{◌≡◌, ℕ, ◌+◌, ◌-◌, ◌*◌, ◌^◌, ◌<◌, ◌≤◌, ℤ, pos, neg_ℤ, ◌+ℤ◌, ◌≤ℤ◌, ◌<ℤ◌, eqb, Bool, true, false, List, length, take, drop, None, Some, inl, inr, refl, ap, sym, ◌∙◌, arith}
 use Rattle.std.specs.Prelude.{slice_index}
 use Rattle.std.proofs.lemmas.Bool.{cases_lt, eq-eqb, ne_eqb}
 use Rattle.std.proofs.lemmas.Int.{ints}
@@ -138,12 +138,6 @@ module _ (view : LogView) (rules : RulesView) (block : Anchored) (of : view.rule
     (from : view.from ≡ block.from) (len : view.len ≡ block.len) where
   pub log_of-is : log_of view ≡ block_log rules block
   log_of-is = rw (of, from, len) refl
-
-  pub entry-at : (place : ℕ) (entry : Entry) → entry ≡ entry_of view.rules.now (slice_index (log_of view) place)
-      → entry ≡ entry_of rules (slice_index (block_log rules block) place)
-  entry-at place entry is =
-      is ∙ ap (λ (r : RulesView). entry_of r (slice_index (log_of view) place)) of
-      ∙ ap (λ log. entry_of rules (slice_index log place)) log_of-is
 
 -- the first flaw of a log
 module _ (frame : Frame) (rules : RulesView) (number rank : ℕ) (block : Anchored) where

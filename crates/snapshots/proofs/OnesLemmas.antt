@@ -2,19 +2,15 @@
 use Rattle.std.proofs.Common.{◌≡◌, ℕ, ◌+◌, ◌<◌, ◌≤◌, Bool, true, false, List, [], ◌∷◌, ◌++◌, cond, map, ap, refl, ◌∙◌, arith, get_or, length, Some}
 use Rattle.std.specs.Prelude.{slice_get}
 use Rattle.std.specs.List.{range_with_len}
-use Rattle.std.proofs.lemmas.List.{map-append}
-use Rattle.std.proofs.lemmas.List.FromFn.{get_or-map-range_with_len}
+use Rattle.std.proofs.lemmas.List.FromFn.{get_or-map-range_with_len, length-map-range_with_len, map-range_with_len_more}
 use Rattle.std.proofs.lemmas.Option.{get_or_from_slice_get}
-use Rattle.list_laws.proofs.RangeLemmas.{range-parts}
 use Rattle.bit_rank.specs.Bits.{rank_of, select_of}
 use Rattle.bit_rank.proofs.RankLemmas.{rank_of-all, rank_of-step, rank_of-zero, select_of-from_IsSelected}
 use Rattle.snapshots.specs.Ones.{first_ones, places_of_ones}
 
 -- what is made of one number more
 pub map-range_more : {X : Type 0} (f : ℕ → X) (count : ℕ) → map f (range_with_len 0 (count + 1)) ≡ map f (range_with_len 0 count) ++ f count ∷ []
-map-range_more f count =
-    ap (map f) (range-parts 0 count 1) ∙ map-append f (range_with_len 0 count) (range_with_len (0 + count) 1)
-    ∙ ap (λ n. map f (range_with_len 0 count) ++ f n ∷ []) (omega arith)
+map-range_more f count = map-range_with_len_more f 0 count count (omega arith)
 
 -- one more of them
 pub first_ones-more : (bits : List Bool) (count : ℕ) → first_ones bits (count + 1) ≡ first_ones bits count ++ select_of bits (count + 1) ∷ []
@@ -53,3 +49,7 @@ first_ones-begin bits = ap (first_ones bits) (rank_of-zero bits)
 pub first_ones-at : (bits : List Bool) (count rank d : ℕ) → rank < count → get_or (first_ones bits count) rank d ≡ select_of bits (rank + 1)
 first_ones-at bits count rank d within =
     get_or-map-range_with_len (λ rank. select_of bits (rank + 1)) 0 count rank rank d within (omega arith)
+
+-- there are as many as are taken
+pub length-first_ones : (bits : List Bool) (count : ℕ) → length (first_ones bits count) ≡ count
+length-first_ones bits count = length-map-range_with_len (λ rank. select_of bits (rank + 1)) 0 count

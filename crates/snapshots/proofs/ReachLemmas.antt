@@ -1,5 +1,5 @@
 -- How far objects get: each stop of a block is as near to its anchor as the speed of its period tells, and in the grid.
-use Rattle.std.proofs.Common.{◌≡◌, ℕ, suc, ◌+◌, ◌*◌, ◌^◌, ◌<◌, ◌≤◌, ℤ, pos, ◌+ℤ◌, ◌≤ℤ◌, List, [], ◌∷◌, length, get_or, map, max, take, All, Option, Some, None, IfSome, refl, ap, sym, subst, ◌∙◌, arith}
+use Rattle.std.proofs.Common.{◌≡◌, ℕ, suc, ◌+◌, ◌*◌, ◌<◌, ◌≤◌, ℤ, pos, ◌+ℤ◌, ◌≤ℤ◌, List, [], ◌∷◌, length, get_or, map, max, take, All, Option, Some, None, IfSome, refl, ap, sym, subst, ◌∙◌, arith}
 use Rattle.std.specs.Prelude.{slice_index, fold, sum}
 use Rattle.std.specs.Int.{div_ceil, int_max, int_min}
 use Rattle.std.specs.List.{range_with_len}
@@ -141,26 +141,64 @@ pub hull_of-entry : (rules : RulesView) (symbol : ℕ)
 unfolding entry_of
 hull_of-entry rules symbol = refl
 
--- the stops of a block, symbol by symbol
+-- what holds of each stop that a placed box covers holds of all stops of a log, where the box of each symbol is placed
+module _ (P : Stop → Type 0) (Q : Cell → ℤ → CellBox → Type 0)
+    (holds : (cell : Cell) (at : ℤ) (hull : CellBox) (other : Cell) (instant : ℤ) → Q cell at hull
+    → IsCovered cell hull other → (at +ℤ pos 1) ≤ℤ instant → P (stop_at instant other)) where
+  stops-along : (hull : Option CellBox) (cell : Cell) (at : ℤ) (values : List ℕ) → hull ≡ bounding_box_of values
+      → IfSome hull (Q cell at) → All P (stops_from (at +ℤ pos 1) (cells_along cell values))
+  stops-along None cell at values is placed =
+      All-stops_from P (at +ℤ pos 1) (at +ℤ pos 1) (cells_along cell values) (omega (arith, ints))
+      (subst (All (λ c. (instant : ℤ) → (at +ℤ pos 1) ≤ℤ instant → P (stop_at instant c))) (sym (present-none cell values is))
+      (All-nil (λ c. (instant : ℤ) → (at +ℤ pos 1) ≤ℤ instant → P (stop_at instant c))))
+  stops-along (Some hull) cell at values is placed =
+      All-stops_from P (at +ℤ pos 1) (at +ℤ pos 1) (cells_along cell values) (omega (arith, ints))
+      (All-weaker (IsCovered cell hull) (λ c. (instant : ℤ) → (at +ℤ pos 1) ≤ℤ instant → P (stop_at instant c))
+      (λ c covers instant late. holds cell at hull c instant placed covers late) (present_in (cells_along cell values))
+      (covered-along cell values hull is))
+
+  module _ (rules : RulesView) where
+    -- the box of each symbol is placed, where the log begins in a cell at an instant
+    abbrev pub ArePut : Cell → ℤ → List ℕ → Type 0
+    ArePut cell at log = (place : ℕ) → place < length log → IfSome (entry_of rules (slice_index log place)).hull
+        (Q (cell_before rules cell log place) (at +ℤ pos (duration_of_log rules (take place log))))
+
+    pub stops-after : (log : List ℕ) (cell : Cell) (at : ℤ) → ArePut cell at log → All P (stops_after rules at cell log)
+    unfolding cell_after duration_of_log
+    stops-after [] cell at put = subst (All P) (sym (stops_after-none rules at cell)) (All-nil P)
+    stops-after (symbol ∷ log) cell at put =
+        let next : Cell = moved cell (displacement_of (values_of rules symbol)) in
+        let later : ℤ = at +ℤ pos (duration_of rules symbol) in
+        let none : at +ℤ pos 0 ≡ at = omega (arith, ints) in
+        subst (All P) (sym (stops_after-cons rules at cell symbol log))
+        (All-append P (stops_from (at +ℤ pos 1) (cells_along cell (values_of rules symbol))) (stops_after rules later next log)
+        (stops-along (entry_of rules symbol).hull cell at (values_of rules symbol) (hull_of-entry rules symbol)
+        (subst (λ z. IfSome (entry_of rules symbol).hull (Q cell z)) none (put 0 (omega arith))))
+        (stops-after log next later (λ place within.
+        let count : duration_of_log rules (take (suc place) (symbol ∷ log))
+        ≡ duration_of rules symbol + duration_of_log rules (take place log) =
+        sum_by-cons (duration_of rules) symbol (take place log) in
+        let same : at +ℤ pos (duration_of_log rules (take (suc place) (symbol ∷ log)))
+        ≡ later +ℤ pos (duration_of_log rules (take place log)) = omega (arith, ints, count) in
+        subst (λ z. IfSome (entry_of rules (slice_index log place)).hull (Q (cell_before rules next log place) z)) same
+        (put (suc place) (omega arith)))))
+
 module _ (parts : Parts) (number : ℕ) (block : Anchored) where
-  -- a placed box is in the grid, and not farther away than the period's speed tells
-  record IsHeld (cell : Cell) (before : ℕ) (hull : CellBox) : Type 0 where
+  -- a box is placed in the grid so long after the anchor, and not farther away than the period's speed tells
+  record IsHeld (cell : Cell) (at : ℤ) (hull : CellBox) : Type 0 where
+    pub before : ℕ
+    pub since : at ≡ anchored_at parts.frame number block +ℤ pos before
     pub placed : IsInGridAt parts.frame cell hull
     pub slow : div_ceil (far_of block.cell cell hull) (before + 1) ≤ speed_of parts number
 
-  -- the first instant after so many
-  abbrev next_after : ℕ → ℤ
-  next_after before = (anchored_at parts.frame number block +ℤ pos before) +ℤ pos 1
-
   -- an object in such a box is reached
-  reached-inside : (cell : Cell) (before : ℕ) (hull : CellBox) (other : Cell) (at : ℤ) → IsHeld cell before hull
-      → IsCovered cell hull other → next_after before ≤ℤ at → IsReached parts number block (stop_at at other)
-  reached-inside cell before hull other at held is late =
-      let side : ℕ = 2 ^ parts.frame.height in
+  reached-inside : (cell : Cell) (at : ℤ) (hull : CellBox) (other : Cell) (instant : ℤ) → IsHeld cell at hull
+      → IsCovered cell hull other → (at +ℤ pos 1) ≤ℤ instant → IsReached parts number block (stop_at instant other)
+  reached-inside cell at hull other instant held is late =
       let far : ℕ = far_of block.cell cell hull in
-      let elapsed : before + 1 ≤ gap at (first_in parts.frame number) = omega (arith, ints) in
-      let within : far ≤ width_at parts number at =
-      far-within far before (speed_of parts number) (gap at (first_in parts.frame number)) held.slow elapsed in
+      let elapsed : held.before + 1 ≤ gap instant (first_in parts.frame number) = omega (arith, ints, late, held.since) in
+      let within : far ≤ width_at parts number instant =
+      far-within far held.before (speed_of parts number) (gap instant (first_in parts.frame number)) held.slow elapsed in
       let column = gap-between (cell.x +ℤ hull.x1) other.x (cell.x +ℤ hull.x2) block.cell.x is.left is.right in
       let line = gap-between (cell.y +ℤ hull.y1) other.y (cell.y +ℤ hull.y2) block.cell.y is.below is.above in
       record {
@@ -174,74 +212,12 @@ module _ (parts : Parts) (number : ℕ) (block : Anchored) where
         };
       }
 
-  -- so are the stops of values whose box is held
-  reached-along : (hull : Option CellBox) (cell : Cell) (before : ℕ) (values : List ℕ) → hull ≡ bounding_box_of values
-      → IfSome hull (IsHeld cell before)
-      → All (IsReached parts number block) (stops_from (next_after before) (cells_along cell values))
-  reached-along None cell before values is held =
-      All-stops_from (IsReached parts number block) (next_after before) (next_after before) (cells_along cell values)
-      (omega (arith, ints))
-      (subst (All (λ c. (at : ℤ) → next_after before ≤ℤ at → IsReached parts number block (stop_at at c)))
-      (sym (present-none cell values is))
-      (All-nil (λ c. (at : ℤ) → next_after before ≤ℤ at → IsReached parts number block (stop_at at c))))
-  reached-along (Some hull) cell before values is held =
-      All-stops_from (IsReached parts number block) (next_after before) (next_after before) (cells_along cell values)
-      (omega (arith, ints))
-      (All-weaker (IsCovered cell hull)
-      (λ c. (at : ℤ) → next_after before ≤ℤ at → IsReached parts number block (stop_at at c))
-      (λ c in_box at late. reached-inside cell before hull c at held in_box late) (present_in (cells_along cell values))
-      (covered-along cell values hull is))
-
-  module _ (rules : RulesView) where
-    -- the box of each symbol is held, where the log begins in a cell, so many instants after the anchor
-    abbrev AreHeld : Cell → ℕ → List ℕ → Type 0
-    AreHeld cell before log = (place : ℕ) → place < length log
-        → IfSome (entry_of rules (slice_index log place)).hull
-        (IsHeld (cell_before rules cell log place) (before + duration_of_log rules (take place log)))
-
-    first-held : (cell : Cell) (before : ℕ) (symbol : ℕ) (log : List ℕ) → AreHeld cell before (symbol ∷ log)
-        → IfSome (entry_of rules symbol).hull (IsHeld cell before)
-    unfolding cell_after duration_of_log
-    first-held cell before symbol log held =
-        let none : before + 0 ≡ before = omega arith in
-        subst (λ n. IfSome (entry_of rules symbol).hull (IsHeld cell n)) none (held 0 (omega arith))
-
-    rest-held : (cell : Cell) (before : ℕ) (symbol : ℕ) (log : List ℕ) → AreHeld cell before (symbol ∷ log)
-        → AreHeld (moved cell (displacement_of (values_of rules symbol))) (before + duration_of rules symbol) log
-    unfolding cell_after duration_of_log
-    rest-held cell before symbol log held place within =
-        let next : Cell = moved cell (displacement_of (values_of rules symbol)) in
-        let same : before + duration_of_log rules (take (suc place) (symbol ∷ log))
-        ≡ before + duration_of rules symbol + duration_of_log rules (take place log) =
-        omega (arith, sum_by-cons (duration_of rules) symbol (take place log)) in
-        subst (λ n. IfSome (entry_of rules (slice_index log place)).hull
-        (IsHeld (cell_before rules next log place) n)) same (held (suc place) (omega arith))
-
-    reached-after : (log : List ℕ) (cell : Cell) (before : ℕ) → AreHeld cell before log
-        → All (IsReached parts number block)
-        (stops_after rules (anchored_at parts.frame number block +ℤ pos before) cell log)
-    reached-after [] cell before held =
-        subst (All (IsReached parts number block)) (sym (stops_after-none rules _ cell))
-        (All-nil (IsReached parts number block))
-    reached-after (symbol ∷ log) cell before held =
-        let at : ℤ = anchored_at parts.frame number block +ℤ pos before in
-        let next : Cell = moved cell (displacement_of (values_of rules symbol)) in
-        let later : ℕ = before + duration_of rules symbol in
-        let moves : anchored_at parts.frame number block +ℤ pos later ≡ at +ℤ pos (duration_of rules symbol) =
-        omega (arith, ints) in
-        subst (All (IsReached parts number block)) (sym (stops_after-cons rules at cell symbol log))
-        (All-append (IsReached parts number block) (stops_from (at +ℤ pos 1) (cells_along cell (values_of rules symbol)))
-        (stops_after rules (at +ℤ pos (duration_of rules symbol)) next log)
-        (reached-along (entry_of rules symbol).hull cell before (values_of rules symbol) (hull_of-entry rules symbol)
-        (first-held cell before symbol log held))
-        (subst (λ start. All (IsReached parts number block) (stops_after rules start next log)) moves
-        (reached-after log next later (rest-held cell before symbol log held))))
-
   -- a box that is placed in the grid and not too far away is held
   held-if : (hull : Option CellBox) (cell : Cell) (before : ℕ) → IfSome hull (IsInGridAt parts.frame cell)
-      → hull_speed block.cell cell before hull ≤ speed_of parts number → IfSome hull (IsHeld cell before)
+      → hull_speed block.cell cell before hull ≤ speed_of parts number
+      → IfSome hull (IsHeld cell (anchored_at parts.frame number block +ℤ pos before))
   held-if None cell before placed slow = tt
-  held-if (Some hull) cell before placed slow = record { placed = placed; slow = slow }
+  held-if (Some hull) cell before placed slow = record { before = before; since = refl; placed = placed; slow = slow }
 
   -- the stops of a block whose log is sound, and which is not faster than its period
   reached-block : IsBlock (snapshot_in parts number) block → IsSoundLog parts.frame (rules_in parts) number block
@@ -252,27 +228,21 @@ module _ (parts : Parts) (number : ℕ) (block : Anchored) where
       let rules : RulesView = rules_in parts in
       let log : List ℕ = block_log rules block in
       let at : ℤ = anchored_at parts.frame number block in
-      let none : at +ℤ pos 0 ≡ at = omega (arith, ints) in
       let each = fold_max-each (symbol_speed rules block.cell log) (range_with_len 0 (length log)) 0 in
-      let held : AreHeld rules block.cell 0 log = λ place within.
-      let known : place < length (range_with_len 0 (length log)) = rw (length-range_with_len 0 (length log)) within in
-      let here : get_or (range_with_len 0 (length log)) place 0 ≡ place =
-      omega (arith, get_or-range_with_len 0 (length log) place 0 within) in
-      let one : symbol_speed rules block.cell log place ≤ log_speed rules block.cell log =
-      subst (λ k. symbol_speed rules block.cell log k ≤ log_speed rules block.cell log) here (each place 0 known) in
-      let same : duration_of_log rules (take place log) ≡ 0 + duration_of_log rules (take place log) = omega arith in
-      subst (λ n. IfSome (entry_of rules (slice_index log place)).hull
-      (IsHeld (cell_before rules block.cell log place) n)) same
-      (held-if (entry_of rules (slice_index log place)).hull (cell_before rules block.cell log place)
-      (duration_of_log rules (take place log)) (sound.placed place within) (le_trans one slow)) in
       All-cons (IsReached parts number block) (stop_at at block.cell) (stops_after rules at block.cell log)
       (record {
         column = omega (arith, ints);
         line = omega (arith, ints);
         inside = its.cell;
       })
-      (subst (λ start. All (IsReached parts number block) (stops_after rules start block.cell log)) none
-      (reached-after rules log block.cell 0 held))
+      (stops-after (IsReached parts number block) IsHeld reached-inside rules log block.cell at (λ place within.
+      let known : place < length (range_with_len 0 (length log)) = rw (length-range_with_len 0 (length log)) within in
+      let here : get_or (range_with_len 0 (length log)) place 0 ≡ place =
+      omega (arith, get_or-range_with_len 0 (length log) place 0 within) in
+      let one : symbol_speed rules block.cell log place ≤ log_speed rules block.cell log =
+      subst (λ k. symbol_speed rules block.cell log k ≤ log_speed rules block.cell log) here (each place 0 known) in
+      held-if (entry_of rules (slice_index log place)).hull (cell_before rules block.cell log place)
+      (duration_of_log rules (take place log)) (sound.placed place within) (le_trans one slow)))
 
 -- the snapshot of a shaped period is shaped
 pub IsShapedView-view : (frame : Frame) (number objects start : ℕ) (period : PeriodParts) → IsFrame frame

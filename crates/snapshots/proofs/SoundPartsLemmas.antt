@@ -1,5 +1,5 @@
 -- What follows from no flaw: sound rules, sound logs, and sound parts.
-use Rattle.std.proofs.Common.{◌≡◌, ℕ, ◌+◌, ◌^◌, ℤ, pos, ◌+ℤ◌, ◌≤ℤ◌, ◌<ℤ◌, true, false, eqb, List, length, map, Option, None, Some, IfSome, inl, inr, subst, arith}
+use Rattle.std.proofs.Common.{◌≡◌, ℕ, ◌+◌, ◌^◌, ℤ, pos, ◌+ℤ◌, ◌≤ℤ◌, ◌<ℤ◌, true, false, eqb, List, length, Option, None, Some, IfSome, inl, inr, subst, arith}
 use Rattle.std.specs.Prelude.{slice_index, ◌&&◌}
 use Rattle.std.proofs.lemmas.Bool.{and_parts, cases_Bool, eqb-true, ltb-false, not-false}
 use Rattle.std.proofs.lemmas.Int.{ints}
@@ -24,15 +24,14 @@ use Rattle.log_bounds.specs.Bounds.{cell_before}
 use Rattle.snapshots.specs.JoinFlaws.{block_flaw, blocks_flaw, duration_flaw, has_columns, has_lines}
 use Rattle.log_bounds.specs.Bounds.{duration_of_log}
 use Rattle.snapshots.specs.JoinFlaws.{instants_after, is_along, is_off_grid, log_flaw, off_grid_at, passes_grid}
-use Rattle.snapshots.specs.Parts.{block_log, numbers_in, rules_in, snapshot_in}
+use Rattle.snapshots.specs.Parts.{block_log, rules_in, snapshot_in}
 use Rattle.snapshots.specs.SoundParts.{AreSoundLogs, AreSoundRules, IsBoxInReach, IsInGridAt, IsSound, IsSoundLog}
-use Rattle.snapshots.specs.Speed.{speed_of}
 use Rattle.snapshots.specs.declared.track_tree.TrackTree.{TrackTree}
 use Rattle.std.specs.Global.{Box}
-use Rattle.snapshots.specs.Stores.{AreTracks, AreOf, AreStores}
+use Rattle.snapshots.specs.Stores.{AreOf, AreStores}
 use Rattle.snapshots.specs.View.{SnapshotView, all_blocks, rank_in}
 use Rattle.snapshots.specs.declared.anchored.Anchored.{Anchored}
-use Rattle.snapshots.proofs.JoinLemmas.{IsJoining}
+use Rattle.snapshots.proofs.JoinLemmas.{IsJoined, IsJoining}
 
 -- a box that does not pass the reach
 box-reach : (height : ℕ) (hull : Option CellBox) → box_passes height hull ≡ false
@@ -127,12 +126,11 @@ IsSound-joined parts rules snaps before steps of are is = record {
 
 pub AreStores-joined : (parts : Parts) (rules : RulesView) (snaps : List SnapshotView) (speeds : List ℕ)
     (tracks : List (Option (Box TrackTree))) (before steps : ℕ) → AreOf parts rules snaps → AreRules rules
-    → IsJoining parts (periods_of parts.frame) before steps → speeds ≡ map (speed_of parts) (numbers_in parts.frame)
-    → AreTracks parts (periods_of parts.frame) tracks → AreStores parts rules snaps speeds tracks
-AreStores-joined parts rules snaps speeds tracks before steps of are is found kept = record {
-  valid = record { shaped = of.shaped; sound = IsSound-joined parts rules snaps before steps of are is };
+    → IsJoined parts (periods_of parts.frame) before steps speeds tracks → AreStores parts rules snaps speeds tracks
+AreStores-joined parts rules snaps speeds tracks before steps of are is = record {
+  valid = record { shaped = of.shaped; sound = IsSound-joined parts rules snaps before steps of are is.joining };
   rules_are = of.rules_are;
   snaps_are = of.snaps_are;
-  speeds_are = found;
-  tracks_are = kept;
+  speeds_are = is.speeds_are;
+  tracks_are = is.tracks_are;
 }

@@ -201,20 +201,12 @@ module _ {S : Type 0} (squares boxes : S → CellBox → Bool) where
   tracks_budget-is tracks = refl
 
 -- what is kept of a period
-pub numbers-at : (parts : Parts) (rules : RulesView) (snaps : List SnapshotView) (speeds : List ℕ)
-    (tracks : List (Option (Box TrackTree))) (number : ℕ) (d : Option (Box TrackTree))
-    → AreStores parts rules snaps speeds tracks
-    → number < periods_of parts.frame → IsOfPeriod number (get_or tracks number d)
-numbers-at parts rules snaps speeds tracks number d are within =
-    subst (IsOfPeriod number) (sym (get_or_default tracks number d None (omega (arith, are.tracks_are.long, within))))
-    (are.tracks_are.numbers number within)
-
 pub tracks-at : (parts : Parts) (rules : RulesView) (snaps : List SnapshotView) (speeds : List ℕ)
     (tracks : List (Option (Box TrackTree))) (number : ℕ) (d : Option (Box TrackTree))
-    → AreStores parts rules snaps speeds tracks
-    → number < periods_of parts.frame
+    → AreStores parts rules snaps speeds tracks → number < periods_of parts.frame
     → IsKept parts.frame (rules_in parts) (blocks_by_leaf (snapshot_in parts number)) (get_or tracks number d)
+    × IsOfPeriod number (get_or tracks number d)
 tracks-at parts rules snaps speeds tracks number d are within =
-    subst (IsKept parts.frame (rules_in parts) (blocks_by_leaf (snapshot_in parts number)))
-    (sym (get_or_default tracks number d None (omega (arith, are.tracks_are.long, within))))
-    (are.tracks_are.kept number within)
+    let its = are.tracks_are in
+    subst (λ kept. IsKept parts.frame (rules_in parts) (blocks_by_leaf (snapshot_in parts number)) kept × IsOfPeriod number kept)
+    (sym (get_or_default tracks number d None (omega (arith, its.long, within)))) (its.kept number within, its.numbers number within)

@@ -1,34 +1,19 @@
 -- A period's tree in the newest version: it is made of the same cells, which are few and ascend.
-use Rattle.std.proofs.Common.{◌≡◌, ℕ, zero, suc, ◌+◌, ◌<◌, ◌≤◌, List, [], ◌∷◌, length, map, refl, ap, ◌∙◌, arith}
-use Rattle.std.specs.Prelude.{slice_index}
-use Rattle.std.specs.List.{enumerate_from, sum_by}
+use Rattle.std.proofs.Common.{◌≡◌, ℕ, ◌≤◌, List, [], ◌∷◌, length, map, refl, ap, arith}
+use Rattle.std.specs.List.{sum_by}
 use Rattle.std.proofs.lemmas.List.Sums.{sum_by-le-sum_by}
 use Rattle.list_laws.proofs.FlatLemmas.{sum_by-map}
 use Rattle.packed_bits.proofs.OnesLemmas.{ones_of-le-length}
-use Rattle.track_types.specs.declared.cell.Cell.{Cell}
 use Rattle.track_types.specs.declared.frame.Frame.{Frame}
 use Rattle.track_types.specs.declared.limit.TheConstants.{MAX_OBJECTS}
 use Rattle.track_types.specs.declared.parts.Parts.{Parts}
 use Rattle.track_types.specs.declared.period_parts.PeriodParts.{PeriodParts}
-use Rattle.k2_tree.specs.Pruning.{kept_leaves}
-use Rattle.k2_tree.specs.TreeBits.{Rises}
-use Rattle.snapshots.specs.IndexCost.{blocks_reads, everywhere, open_cost}
+use Rattle.snapshots.specs.IndexCost.{blocks_reads, open_cost}
 use Rattle.snapshots.specs.Parts.{numbers_in, snapshot_in}
 use Rattle.snapshots.specs.Sound.{IsSnapshot}
 use Rattle.snapshots.specs.Stores.{period_parts_of, snapshots_in}
 use Rattle.snapshots.specs.Upgrade.{newest, tree_reads, upgrade_of, upgraded_parts, upgraded_period}
 use Rattle.snapshots.specs.View.{SnapshotView, tree_in}
-use Rattle.snapshots.proofs.LeafOrderLemmas.{all_kept}
-
--- numbers that rise ascend
-pub increasing-rises : (n : ℕ) (xs : List ℕ) → Rises n xs → (k : ℕ) → k + 1 < length xs
-    → slice_index xs k < slice_index xs (k + 1)
-increasing-rises n [] up k within = absurd (omega arith)
-increasing-rises n (x ∷ []) up k within = absurd (omega arith)
-increasing-rises n (x ∷ y ∷ ys) up zero within = up.1.0
-increasing-rises n (x ∷ y ∷ ys) up (suc k) within =
-    let e : suc k + 1 ≡ suc (k + 1) = omega arith in
-    rw e (increasing-rises (suc x) (y ∷ ys) up.1 k (omega arith))
 
 -- a set of cells has few of them, since each is the cell of an object
 pub few_cells : (view : SnapshotView) → IsSnapshot view → length (tree_in view).cells ≤ MAX_OBJECTS
@@ -43,16 +28,6 @@ few_cells view is =
       is.shaped.few,
     )
 
--- the cells of numbered cells
-cells-numbered : (first : ℕ) (cells : List Cell) → map (λ leaf. leaf.1) (enumerate_from first cells) ≡ cells
-cells-numbered first [] = refl
-cells-numbered first (cell ∷ cells) = ap (λ rest. cell ∷ rest) (cells-numbered (first + 1) cells)
-
--- a walk over all squares comes by each cell
-pub cells-kept : (view : SnapshotView)
-    → map (λ leaf. leaf.1) (kept_leaves everywhere (tree_in view)) ≡ (tree_in view).cells
-cells-kept view = ap (map (λ leaf. leaf.1)) (all_kept view) ∙ cells-numbered 0 (tree_in view).cells
-
 -- the parts of snapshots of one index change by its header
 pub periods-upgraded : (parts : Parts) (numbers : List ℕ) → map upgraded_parts (map (snapshot_in parts) numbers)
     ≡ map (upgraded_period parts.frame) (map period_parts_of (map (snapshot_in parts) numbers))
@@ -60,7 +35,7 @@ periods-upgraded parts [] = refl
 periods-upgraded parts (number ∷ numbers) =
     ap (λ rest. upgraded_parts (snapshot_in parts number) ∷ rest) (periods-upgraded parts numbers)
 
--- a walk over all squares reads no more than what finds all blocks
+-- a listing of a tree reads no more than what finds all blocks
 reads-blocks : (view : SnapshotView) → tree_reads view ≤ blocks_reads view
 unfolding blocks_reads
 reads-blocks view = omega arith

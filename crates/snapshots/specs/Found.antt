@@ -1,11 +1,18 @@
 -- The blocks of a period as they are found: in leaf order, each with its place by object.
-use Rattle.std.specs.Prelude.{◌≡◌, ℕ, ◌<◌, List, length, map, slice_index, slice_index_or}
+use Rattle.std.specs.Prelude.{◌≡◌, ℕ, ◌<◌, List, length, map, slice_index, slice_index_or, take}
+use Rattle.std.specs.List.{range_with_len}
 use Rattle.snapshots.specs.Sound.{IsSnapshot}
 use Rattle.snapshots.specs.TrackTree.{morton_of_block}
 use Rattle.snapshots.specs.Tracks.{blocks_by_leaf}
-use Rattle.snapshots.specs.View.{SnapshotView}
+use Rattle.snapshots.specs.View.{SnapshotView, block_at}
 use Rattle.snapshots.specs.declared.anchored.Anchored.{Anchored}
 use Rattle.snapshots.specs.declared.finding.FoundBlocks.{FoundBlocks}
+
+-- these are the blocks of a snapshot at the places before one in leaf order
+pub record AreFoundBefore (view : SnapshotView) (place : ℕ) (found : FoundBlocks) : Type 0 where
+  pub blocks_are : found.by_leaf.items ≡ map (block_at view) (range_with_len 0 place)
+  pub codes_are : found.codes.items ≡ map (morton_of_block view.frame) (map (block_at view) (range_with_len 0 place))
+  pub ranks_are : found.ranks.items ≡ take place view.parts.perm
 
 -- these are the blocks of a snapshot
 pub record AreFound (view : SnapshotView) (found : FoundBlocks) : Type 0 where

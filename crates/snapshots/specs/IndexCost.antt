@@ -1,11 +1,10 @@
 -- How many reads it takes at most to open an index, and to answer what asks for one object.
-use Rattle.std.specs.Prelude.{ℕ, ◌+◌, ◌*◌, ℤ, Bool, true, ◌&&◌, length, filter, Option, None, Some}
+use Rattle.std.specs.Prelude.{ℕ, ◌+◌, ◌*◌, ℤ, Bool, ◌&&◌, length, filter, Option, None, Some}
 use Rattle.std.specs.Int.Signed.{le_z}
 use Rattle.std.specs.List.{sum_by}
-use Rattle.track_types.specs.declared.cell_box.CellBox.{CellBox}
 use Rattle.track_types.specs.declared.frame.Frame.{Frame}
 use Rattle.track_types.specs.declared.parts.Parts.{Parts}
-use Rattle.k2_tree.specs.Pruning.{square_count}
+use Rattle.k2_tree.specs.TreeSquares.{squares_of}
 use Rattle.rule_store.specs.Expansion.{depth_in}
 use Rattle.rule_store.specs.Nodes.{block_budget}
 use Rattle.snapshots.specs.View.{SnapshotView, all_blocks, block_of, tree_in}
@@ -13,13 +12,9 @@ use Rattle.snapshots.specs.Cost.{block_reads, lookup_reads, square_reads}
 use Rattle.snapshots.specs.Parts.{anchored_at, end_in, first_in, index_in, log_in, numbers_in, period_in, rules_in, snapshot_in}
 use Rattle.snapshots.specs.declared.anchored.Anchored.{Anchored}
 
--- the test that keeps each box
-abbrev pub everywhere : CellBox → Bool
-everywhere area = true
-
 -- the reads by which all blocks of a snapshot are found: for each square that is not empty, and for each block
 unfoldable pub blocks_reads : SnapshotView → ℕ
-blocks_reads view = square_reads * square_count everywhere (tree_in view) + block_reads * length (all_blocks view)
+blocks_reads view = square_reads * length (squares_of (tree_in view)) + block_reads * length (all_blocks view)
 
 -- the reads of opening: of each symbol of all logs, and of the blocks of all snapshots
 unfoldable pub open_cost : Parts → ℕ

@@ -2,7 +2,6 @@
 use Rattle.std.specs.Prelude.{ℕ, ◌*◌, ◌<◌, ◌≤◌, max, ℤ, All, map, fold}
 use Rattle.track_types.specs.Frame.{periods_of}
 use Rattle.track_types.specs.Widening.{widened}
-use Rattle.track_types.specs.declared.cell.Cell.{Cell}
 use Rattle.track_types.specs.declared.cell_box.CellBox.{CellBox}
 use Rattle.track_types.specs.declared.parts.Parts.{Parts}
 use Rattle.track_types.specs.declared.stop.Stop.{Stop}

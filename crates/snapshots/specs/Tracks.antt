@@ -4,7 +4,6 @@ use Rattle.std.specs.Prelude.{ℕ, Bool, true, ◌≡◌, ◌&&◌, All, List, l
 use Rattle.std.specs.List.{range_with_len}
 pub use Rattle.track_types.specs.Boxes.{cell_box}
 use Rattle.track_types.specs.Region.{in_box}
-use Rattle.track_types.specs.declared.cell.Cell.{Cell}
 use Rattle.track_types.specs.declared.cell_box.CellBox.{CellBox}
 use Rattle.track_types.specs.declared.parts.Parts.{Parts}
 use Rattle.track_types.specs.declared.stop.Stop.{Stop}

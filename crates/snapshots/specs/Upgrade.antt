@@ -1,14 +1,13 @@
 -- The parts of an index in the newest version of the format.
-use Rattle.std.specs.Prelude.{ℕ, ◌*◌, Bool, List, map}
+use Rattle.std.specs.Prelude.{ℕ, ◌*◌, Bool, List, length, map}
 use Rattle.track_types.specs.Frame.{wide_of}
 use Rattle.track_types.specs.declared.frame.Frame.{Frame}
 use Rattle.track_types.specs.declared.limit.TheConstants.{MAX_VERSION}
 use Rattle.track_types.specs.declared.parts.Parts.{Parts}
 use Rattle.track_types.specs.declared.period_parts.PeriodParts.{PeriodParts}
-use Rattle.k2_tree.specs.Cost.{child_reads}
-use Rattle.k2_tree.specs.Pruning.{square_count}
+use Rattle.bit_rank.specs.Cost.{window_reads}
 use Rattle.k2_tree.specs.Tree.{Tree, tree_bits, tree_of, tree_with}
-use Rattle.snapshots.specs.IndexCost.{everywhere}
+use Rattle.k2_tree.specs.TreeSquares.{squares_of}
 use Rattle.snapshots.specs.View.{SnapshotView, tree_in}
 
 -- the header in the newest version
@@ -44,9 +43,9 @@ upgraded_period frame period = record {
 abbrev pub upgraded_parts : SnapshotView → PeriodParts
 upgraded_parts view = upgraded_period view.frame view.parts
 
--- the reads of a walk over all squares of a snapshot's tree
+-- the reads of a listing of a snapshot's tree
 abbrev pub tree_reads : SnapshotView → ℕ
-tree_reads view = child_reads * square_count everywhere (tree_in view)
+tree_reads view = window_reads * length (squares_of (tree_in view))
 
 -- the parts of an index, whose header and trees alone change
 unfoldable pub upgrade_of : Parts → Parts

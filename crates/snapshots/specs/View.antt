@@ -1,10 +1,11 @@
 -- What a period's snapshot says, on plain lists.
-use Rattle.std.specs.Prelude.{ℕ, ◌+◌, ◌==◌, ◌&&◌, Bool, false, if◌then◌else◌, List, [], length, map, filter, take, sum}
+use Rattle.std.specs.Prelude.{◌≡◌, ℕ, ◌+◌, ◌<◌, ◌==◌, ◌&&◌, Bool, false, if◌then◌else◌, List, [], length, map, filter, take, sum}
 use Rattle.std.specs.Prelude.{slice_index, slice_index_or, Option, None, Some}
 use Rattle.std.specs.List.{filter_map, range_with_len}
 use Rattle.bit_rank.specs.Bits.{rank_of, select_of}
 use Rattle.object_perm.specs.Permutation.{inverse_of}
 use Rattle.track_types.specs.Frame.{wide_of}
+use Rattle.track_types.specs.declared.cell.Cell.{Cell}
 use Rattle.track_types.specs.declared.frame.Frame.{Frame}
 use Rattle.track_types.specs.declared.period_parts.PeriodParts.{PeriodParts}
 use Rattle.k2_tree.specs.Tree.{Tree, tree_of, tree_with}
@@ -40,15 +41,20 @@ tree_without frame = tree_with frame.height (wide_of frame) frame.base []
 abbrev pub leaf_at : SnapshotView → ℕ → ℕ
 leaf_at view place = rank_of view.parts.lasts place
 
--- the block of an object whose place among the present objects and whose place in leaf order are known
-abbrev pub block_with : SnapshotView → ℕ → ℕ → ℕ → Anchored
-block_with view index rank place = record {
+-- the block of an object whose place among the present objects and whose cell are known
+abbrev pub block_by : SnapshotView → ℕ → ℕ → Cell → Anchored
+block_by view index rank cell = record {
   index = index;
   offset = slice_index view.parts.offsets rank;
-  cell = slice_index_or (tree_in view).cells (leaf_at view place) view.frame.base;
+  cell = cell;
   from = view.start + sum (take rank view.parts.lengths);
   len = slice_index view.parts.lengths rank;
 }
+
+-- the same where the place in leaf order is known in place of the cell
+abbrev pub block_with : SnapshotView → ℕ → ℕ → ℕ → Anchored
+block_with view index rank place =
+    block_by view index rank (slice_index_or (tree_in view).cells (leaf_at view place) view.frame.base)
 
 -- the place of an object among the present ones
 abbrev pub rank_in : SnapshotView → ℕ → ℕ
@@ -74,6 +80,13 @@ all_blocks view = filter_map (block_of view) (range_with_len 0 view.objects)
 abbrev pub block_at : SnapshotView → ℕ → Anchored
 block_at view place = block_with view
     (select_of view.parts.present (slice_index view.parts.perm place + 1)) (slice_index view.parts.perm place) place
+
+-- an object has its block at a place in leaf order, and is at a place among the present ones
+pub record IsPlaced (view : SnapshotView) (index place rank : ℕ) : Type 0 where
+  pub within : place < length view.parts.perm
+  pub ranked : rank ≡ slice_index view.parts.perm place
+  pub selected : index ≡ select_of view.parts.present (rank + 1)
+  pub block : block_of view index ≡ Some (block_at view place)
 
 -- the places of a leaf in leaf order, from one on
 abbrev pub places_from : SnapshotView → ℕ → ℕ → ℕ → List ℕ

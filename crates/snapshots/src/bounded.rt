@@ -1,4 +1,4 @@
-ghost use Rattle.std.specs.Prelude.{◌≡◌, ◌+◌, ◌+ℤ◌, ◌≤◌, fold, length, map, max, All, IfOk, IsTrue, OnOk};
+ghost use Rattle.std.specs.Prelude.{◌≡◌, ◌+◌, ◌+ℤ◌, ◌≤◌, fold, map, max, All, IfOk, IsTrue, OnOk};
 ghost use Rattle.step_count.specs.Reads.{ofPeriod};
 ghost use Rattle.track_types.specs.Boxes.{moved_box};
 ghost use Rattle.track_types.specs.Near.{IsNear};
@@ -11,7 +11,6 @@ ghost use Rattle.snapshots.specs.Sound.{IsSnapshot};
 ghost use Rattle.snapshots.specs.Speed.{blocks_speed};
 ghost use Rattle.snapshots.specs.TrackTree.{IsKept, IsOfPeriod};
 ghost use Rattle.snapshots.specs.Tracks.{blocks_by_leaf};
-ghost use Rattle.snapshots.specs.View.{all_blocks};
 
 use crate::finding::find_bounded;
 use crate::judged::Judged;

@@ -1,4 +1,4 @@
-ghost use Rattle.std.specs.Prelude.{◌≡◌, ◌+◌, ◌≤◌, length, IfOk, IsTrue};
+ghost use Rattle.std.specs.Prelude.{◌≡◌, ◌+◌, ◌≤◌, ◌++◌, ◌∷◌, [], length, IfOk, IsTrue, OnOk};
 ghost use Rattle.step_count.specs.Reads.{ofPeriod};
 ghost use Rattle.object_perm.specs.Permutation.{PermutesPlaces};
 ghost use Rattle.snapshots.specs.Bounded.{AreFromAnchors};
@@ -24,6 +24,33 @@ pub struct FoundBlocks {
     pub ranks: Vec<u32>,
 }
 
+impl FoundBlocks {
+    // No block, with room for so many.
+    fn with_capacity(alloc: Global, count: usize) -> Result<FoundBlocks, Memory>
+        ensures by_leaf { IfOk result (λ found. found.by_leaf.items ≡ []) }
+        ensures codes { IfOk result (λ found. found.codes.items ≡ []) }
+        ensures ranks { IfOk result (λ found. found.ranks.items ≡ []) }
+    {
+        Ok(FoundBlocks {
+            by_leaf: Vec::with_capacity(alloc, count)?,
+            codes: Vec::with_capacity(alloc, count)?,
+            ranks: Vec::with_capacity(alloc, count)?,
+        })
+    }
+
+    // Adds the block at the next place in leaf order, with its place by object and its cell's Morton number.
+    fn push(&mut self, rank: u32, block: Anchored, code: u64) -> Result<(), Memory>
+        ensures by_leaf { OnOk result (self.new.by_leaf.items ≡ self.old.by_leaf.items ++ block ∷ []) }
+        ensures codes { OnOk result (self.new.codes.items ≡ self.old.codes.items ++ code ∷ []) }
+        ensures ranks { OnOk result (self.new.ranks.items ≡ self.old.ranks.items ++ rank ∷ []) }
+    {
+        self.by_leaf.push(block)?;
+        self.codes.push(code)?;
+        self.ranks.push(rank)?;
+        Ok(())
+    }
+}
+
 /// Finds the blocks of a period, by the list of the tree's cells, which is made level by level. This makes fewer
 /// reads than a search for each object. Memory is taken for the lists, and while the call runs for those of the cells
 /// and of the objects that are present.
@@ -38,24 +65,16 @@ pub fn find_blocks<L: Reads>(
 {
     let listing = snapshot.tree().listing(alloc, steps)?;
     let present = snapshot.present(alloc, steps)?;
-    let mut by_leaf = Vec::with_capacity(alloc, present.len())?;
-    let mut codes = Vec::with_capacity(alloc, present.len())?;
-    let mut ranks = Vec::with_capacity(alloc, present.len())?;
+    let mut found = FoundBlocks::with_capacity(alloc, present.len())?;
     let mut leaf = 0;
     for place in 0..present.len() as u32 {
         let (rank, block) = snapshot.block_among(&present, place, listing.cells[leaf], steps);
-        by_leaf.push(block)?;
-        codes.push(listing.codes[leaf])?;
-        ranks.push(rank)?;
+        found.push(rank, block, listing.codes[leaf])?;
         if snapshot.is_last(place, steps) {
             leaf += 1;
         }
     }
-    Ok(FoundBlocks {
-        by_leaf,
-        codes,
-        ranks,
-    })
+    Ok(found)
 }
 
 /// Finds the same blocks by bounds that begin at their anchors, by object, counted from the base of the grid. So it does
@@ -73,20 +92,12 @@ pub fn find_bounded<L: Reads>(
 {
     let Frame { height, base, .. } = *snapshot.frame();
     let present = snapshot.present(alloc, steps)?;
-    let mut by_leaf = Vec::with_capacity(alloc, present.len())?;
-    let mut codes = Vec::with_capacity(alloc, present.len())?;
-    let mut ranks = Vec::with_capacity(alloc, present.len())?;
+    let mut found = FoundBlocks::with_capacity(alloc, present.len())?;
     for place in 0..present.len() as u32 {
         let (rank, block) = snapshot.block_bounded(&present, bounds, place, steps);
-        by_leaf.push(block)?;
-        codes.push(morton(block.cell, height, base))?;
-        ranks.push(rank)?;
+        found.push(rank, block, morton(block.cell, height, base))?;
     }
-    Ok(FoundBlocks {
-        by_leaf,
-        codes,
-        ranks,
-    })
+    Ok(found)
 }
 
 /// Blocks in another order, in which their places are given.

@@ -1,26 +1,21 @@
-ghost use Rattle.std.specs.Prelude.{◌≡◌, ◌+◌, ◌*◌, ◌<◌, ◌≤◌, ◌^◌, ◌∷◌, false, if◌then◌else◌, length, take, sum, Some, slice_get, slice_index};
-ghost use Rattle.std.specs.Prelude.{All, Bool, None, map, IfErr, IfNone, IfOk, IfSome, IsTrue, OnOk};
+ghost use Rattle.std.specs.Prelude.{◌≡◌, ◌+◌, ◌*◌, ◌<◌, ◌≤◌, length, sum, Some, slice_get};
+ghost use Rattle.std.specs.Prelude.{All, Bool, None, map, IfErr, IfOk, IfSome, IsTrue, OnOk};
 ghost use Rattle.step_count.specs.Reads.{is_of_period, ofPeriod, ReadsWithin};
-ghost use Rattle.snapshots.specs.View.{all_blocks, block_at, block_of, blocks_in, leaf_at, objects_at, tree_in, view_with};
+ghost use Rattle.snapshots.specs.View.{all_blocks, block_by, block_of, blocks_in, objects_at, tree_in, view_with};
 ghost use Rattle.snapshots.specs.Flaws.{flaw_of, IsSnapFaultFor, IsShapedView};
 ghost use Rattle.snapshots.specs.Sound.{IsBlock, IsSnapshot, IsSoundPeriod};
 ghost use Rattle.snapshots.specs.Stored.{AreStoredBlocks};
-ghost use Rattle.snapshots.specs.Members.{blocks_from, members_left, IsAt};
 ghost use Rattle.snapshots.specs.Objects.{blocks_of, objects_budget, objects_left, objects_needs, objects_of_leaves};
 ghost use Rattle.snapshots.specs.Objects.{passing_blocks, wanted_blocks, WeighSame};
 ghost use Rattle.std.specs.List.Sorted.{IsStrictlyIncreasing};
 ghost use Rattle.k2_tree.specs.Pruning.{kept_leaves, square_count, IsKeptFor};
 ghost use Rattle.track_types.specs.declared.cell.Cell.{Cell};
 ghost use Rattle.bit_rank.specs.Cost.{get_reads, select_reads};
-ghost use Rattle.object_perm.specs.Cost.{at_reads};
-ghost use Rattle.snapshots.specs.Bounded.{AreFromAnchors};
 ghost use Rattle.snapshots.specs.Ones.{first_ones};
-ghost use Rattle.snapshots.specs.Cost.{block_reads, find_reads, first_reads, place_reads, square_reads};
-ghost use Rattle.snapshots.specs.declared.next.Next.TheVariants.{End, Place};
+ghost use Rattle.snapshots.specs.Cost.{block_reads, find_reads, first_reads, square_reads};
 
 use crate::anchored::Anchored;
 use crate::blocks::{Blocks, without_blocks};
-use crate::bounded::anchor_of;
 use crate::checking::{check_perm, check_tree, find_late, flaw, has_cells, instants_in, total};
 use crate::fault::SnapFault;
 use crate::header::Header;
@@ -29,7 +24,6 @@ use crate::objects_in::ObjectsIn;
 use crate::ones::places_of_ones;
 use crate::period_store::PeriodStore;
 use k2_tree::{K2Tree, Keep};
-use log_bounds::PackedBounds;
 use object_perm::Perm;
 use std::alloc::Global;
 use std::marker::Model;
@@ -207,33 +201,10 @@ impl Snapshot {
         ensures block { IfSome result (IsBlock self.now) }
         ensures cost { steps.new ≤ steps.old + find_reads self.now.frame.height }
     {
-        if !self.is_present(index, steps) {
-            return None;
-        }
-        let blocks = self.blocks();
-        let rank = blocks.present.rank1(index, steps);
-        let place = blocks.perm.inverse(rank, steps);
-        let leaf = blocks.lasts.rank1(place, steps);
+        let (place, rank) = self.places_of(index, steps)?;
+        let leaf = self.blocks().lasts.rank1(place, steps);
         let cell = self.tree().leaf_cell(leaf, steps);
         Some(self.block(index, rank, cell))
-    }
-
-    // The place of an object's block in leaf order, and `None` if and only if the object has none in this period.
-    pub(crate) fn place_of<L: Reads>(&self, index: u32, steps: &mut Steps<L>) -> Option<u32>
-        requires within { index < self.now.objects }
-        requires may { IsTrue (L.may (ofPeriod self.now.number)) }
-        ensures none { IfNone result (block_of self.now index ≡ None) }
-        ensures within { IfSome result (λ place. place < length self.now.parts.perm) }
-        ensures some { IfSome result (λ place. block_of self.now index ≡ Some (block_at self.now place)) }
-        ensures snapshot { IsSnapshot self.now }
-        ensures cost { steps.new ≤ steps.old + place_reads }
-    {
-        if !self.is_present(index, steps) {
-            return None;
-        }
-        let blocks = self.blocks();
-        let rank = blocks.present.rank1(index, steps);
-        Some(blocks.perm.inverse(rank, steps))
     }
 
     /// The header.
@@ -322,41 +293,6 @@ impl Snapshot {
         }
     }
 
-    // The first place of a leaf in leaf order.
-    pub(crate) fn first_place<L: Reads>(&self, leaf: u32, steps: &mut Steps<L>) -> u32
-        requires within { leaf < length (tree_in self.now).cells }
-        requires may { IsTrue (L.may (ofPeriod self.now.number)) }
-        ensures within { result < length self.now.parts.perm }
-        ensures leaf { leaf_at self.now result ≡ leaf }
-        ensures places { blocks_in self.now leaf ≡ blocks_from self.now leaf result }
-        ensures cost { steps.new ≤ steps.old + first_reads }
-    {
-        let _ = self.tree(); // says what holds of every snapshot
-        if leaf == 0 {
-            return 0;
-        }
-        self.blocks().lasts.select1(leaf, steps) + 1
-    }
-
-    // The block at a place in leaf order, in whose leaf's cell its anchor is.
-    pub(crate) fn block_in<L: Reads>(
-        &self,
-        place: u32,
-        cell: Cell,
-        steps: &mut Steps<L>,
-    ) -> Anchored
-        requires within { place < length self.now.parts.perm }
-        requires cell { slice_get (tree_in self.now).cells (leaf_at self.now place) ≡ Some cell }
-        requires may { IsTrue (L.may (ofPeriod self.now.number)) }
-        ensures value { result ≡ block_at self.now place }
-        ensures cost { steps.new ≤ steps.old + (at_reads + select_reads) }
-    {
-        let blocks = self.blocks();
-        let rank = blocks.perm.at(place, steps);
-        let index = blocks.present.select1(rank + 1, steps);
-        self.block(index, rank, cell)
-    }
-
     // Where the logs of the period begin, if it has a block, and how many symbols they have together.
     pub(crate) fn logs(&self) -> (u32, u32)
         ensures from { 0 < length self.now.parts.perm → result.0 ≡ self.now.start }
@@ -394,71 +330,10 @@ impl Snapshot {
         }
     }
 
-    // The block at a place in leaf order, in whose leaf's cell its anchor is, by the places of the present objects.
-    // Its place by object comes before it.
-    pub(crate) fn block_among<L: Reads>(
-        &self,
-        present: &[u32],
-        place: u32,
-        cell: Cell,
-        steps: &mut Steps<L>,
-    ) -> (u32, Anchored)
-        requires within { place < length self.now.parts.perm }
-        requires cell { slice_get (tree_in self.now).cells (leaf_at self.now place) ≡ Some cell }
-        requires present { present.now ≡ first_ones self.now.parts.present (length self.now.parts.perm) }
-        requires may { IsTrue (L.may (ofPeriod self.now.number)) }
-        ensures rank { result.0 ≡ slice_index self.now.parts.perm place }
-        ensures value { result.1 ≡ block_at self.now place }
-        ensures cost { steps.new ≤ steps.old + at_reads }
-    {
-        let rank = self.blocks().perm.at(place, steps);
-        (rank, self.block(present[rank as usize], rank, cell))
-    }
-
-    // The same by bounds that begin at the anchors of all blocks, by object, counted from the base of the grid.
-    pub(crate) fn block_bounded<L: Reads>(
-        &self,
-        present: &[u32],
-        bounds: &[PackedBounds],
-        place: u32,
-        steps: &mut Steps<L>,
-    ) -> (u32, Anchored)
-        requires within { place < length self.now.parts.perm }
-        requires present { present.now ≡ first_ones self.now.parts.present (length self.now.parts.perm) }
-        requires bounds { AreFromAnchors self.now bounds.now }
-        requires may { IsTrue (L.may (ofPeriod self.now.number)) }
-        ensures rank { result.0 ≡ slice_index self.now.parts.perm place }
-        ensures value { result.1 ≡ block_at self.now place }
-        ensures cost { steps.new ≤ steps.old + at_reads }
-    {
-        let rank = self.blocks().perm.at(place, steps);
-        let cell = anchor_of(bounds[rank as usize], self.frame().base);
-        (rank, self.block(present[rank as usize], rank, cell))
-    }
-
-    // Whether the object at a place in leaf order is the last of its cell.
-    pub(crate) fn is_last<L: Reads>(&self, place: u32, steps: &mut Steps<L>) -> bool
-        requires within { place < length self.now.parts.perm }
-        requires may { IsTrue (L.may (ofPeriod self.now.number)) }
-        ensures room { place + 1 < 2 ^ 32 }
-        ensures next { leaf_at self.now (place + 1) ≡ leaf_at self.now place + (if result then 1 else 0) }
-        ensures more { result ≡ false → IsAt self.now (leaf_at self.now place) (Place (place + 1)) }
-        ensures left { blocks_from self.now (leaf_at self.now place) place
-            ≡ block_at self.now place ∷ members_left self.now (leaf_at self.now place)
-            (if result then End else Place (place + 1)) }
-        ensures cost { steps.new ≤ steps.old + get_reads }
-    {
-        self.blocks().lasts.get(place, steps)
-    }
-
     // The block of the object at a place among the present ones, whose anchor is in this cell.
-    fn block(&self, index: u32, rank: u32, cell: Cell) -> Anchored
+    pub(crate) fn block(&self, index: u32, rank: u32, cell: Cell) -> Anchored
         requires { rank < length self.now.parts.perm }
-        ensures index { result.index ≡ index }
-        ensures offset { result.offset ≡ slice_index self.now.parts.offsets rank }
-        ensures cell { result.cell ≡ cell }
-        ensures from { result.from ≡ self.now.start + sum (take rank self.now.parts.lengths) }
-        ensures len { result.len ≡ slice_index self.now.parts.lengths rank }
+        ensures { result ≡ block_by self.now index rank cell }
     {
         let blocks = self.blocks();
         let rank = rank as usize;
@@ -472,7 +347,7 @@ impl Snapshot {
     }
 
     // Whether an object has a block.
-    fn is_present<L: Reads>(&self, index: u32, steps: &mut Steps<L>) -> bool
+    pub(crate) fn is_present<L: Reads>(&self, index: u32, steps: &mut Steps<L>) -> bool
         requires within { index < self.now.objects }
         requires may { IsTrue (L.may (ofPeriod self.now.number)) }
         ensures value { slice_get self.now.parts.present index ≡ Some result }
@@ -486,7 +361,7 @@ impl Snapshot {
     }
 
     // What is stored of the blocks of a period that has one.
-    fn blocks(&self) -> &Blocks
+    pub(crate) fn blocks(&self) -> &Blocks
         requires { 0 < length self.now.parts.perm }
         ensures blocks { AreStoredBlocks self.now result.now }
         ensures snapshot { IsSnapshot self.now }

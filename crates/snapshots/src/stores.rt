@@ -231,7 +231,7 @@ impl Stores {
         ensures block { IfSome result (IsBlock (snapshot_in self.now period)) }
         ensures cost { steps.new ≤ steps.old + lookup_reads }
     {
-        let place = self.snapshot(period).place_of(index, steps)?;
+        let (place, _rank) = self.snapshot(period).places_of(index, steps)?;
         let Some(kept) = self.kept(period) else {
             unreachable!(); // where no block is kept, no object has one
         };
@@ -257,7 +257,8 @@ impl Stores {
         ensures on_tracks { AreOnTracks self.now period }
         ensures needs { ReadsWithin (tracks_needs result) (is_of_period period) }
     {
-        match &self.tracks[period as usize] {
+        let _ = self.frame(); // says what holds of all stores
+        match self.kept(period) {
             Some(kept) => Tracks::new(Some(KeptWalk::new(kept, search))),
             None => Tracks::new(None),
         }

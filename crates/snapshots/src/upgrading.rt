@@ -1,14 +1,12 @@
 ghost use Rattle.std.specs.Prelude.{◌≡◌, ◌+◌, ◌≤◌, IfOk};
 ghost use Rattle.k2_tree.specs.Tree.{tree_bits};
 ghost use Rattle.snapshots.specs.Upgrade.{newest, newest_tree, tree_reads, upgraded_parts};
-ghost use Rattle.snapshots.specs.View.{tree_in};
 
-use crate::everywhere::Everywhere;
 use crate::snapshot::Snapshot;
-use k2_tree::K2Tree;
+use k2_tree::bits_of_codes;
 use std::alloc::Global;
 use step_count::{Reads, Steps};
-use track_types::{BitList, Cell, Frame, Lazy, MAX_VERSION, Memory, PeriodParts};
+use track_types::{BitList, Frame, MAX_VERSION, Memory, PeriodParts};
 
 /// The header in the newest version of the format.
 pub fn newest(frame: &Frame) -> Frame
@@ -21,8 +19,8 @@ pub fn newest(frame: &Frame) -> Frame
 }
 
 /// The parts of a period, which is given up, in the newest version of the format: its tree is made
-/// anew from its cells. Memory is taken for these, for the tree, and for the presence bits of a
-/// period without a block.
+/// anew from the listing of its cells. Memory is taken for this, for the tree, and for the presence
+/// bits of a period without a block.
 pub fn upgraded<L: Reads>(
     alloc: Global,
     snapshot: Snapshot,
@@ -61,24 +59,11 @@ fn newest_tree<L: Reads>(
     ensures cost { steps.new ≤ steps.old + tree_reads snapshot.now }
 {
     let frame = newest(snapshot.frame());
-    let cells = cells_of(alloc, snapshot, steps)?;
-    let tree = K2Tree::build(alloc, &cells, frame.height, frame.wide_levels(), frame.base)?;
-    Ok(tree.bits())
-}
-
-// The cells of a snapshot's tree, in Morton order.
-fn cells_of<L: Reads>(
-    alloc: Global,
-    snapshot: &Snapshot,
-    steps: &mut Steps<L>,
-) -> Result<Vec<Cell>, Memory>
-    ensures ok { IfOk result (λ cells. cells.items ≡ (tree_in snapshot.now).cells) }
-    ensures cost { steps.new ≤ steps.old + tree_reads snapshot.now }
-{
-    let mut cells = Vec::new(alloc);
-    let mut walk = snapshot.tree().pruned(Everywhere);
-    while let Some((_leaf, cell)) = walk.draw(steps) {
-        cells.push(cell)?;
-    }
-    Ok(cells)
+    let listing = snapshot.tree().listing(alloc, steps)?;
+    bits_of_codes(
+        alloc,
+        listing.codes.as_slice(),
+        frame.height,
+        frame.wide_levels(),
+    )
 }

@@ -1,12 +1,10 @@
-use Rattle.std.proofs.Common.{◌≡◌, length, ap, arith, subst, sym, map, All, ◌∙◌}
+use Rattle.std.proofs.Common.{◌≡◌, length, ap, subst, sym, map, All, ◌∙◌}
 use Rattle.std.proofs.lemmas.List.{length-map}
 use Rattle.box_tree.specs.Boxes.{IsFrom}
 use Rattle.track_types.specs.Boxes.{moved_box}
 use Rattle.track_types.specs.declared.frame.Frame.{Frame}
-use Rattle.track_types.specs.declared.cell.Cell.{Cell}
 use Rattle.log_bounds.specs.declared.bounds.LogBounds.{LogBounds}
 use Rattle.snapshots.proofs.BoundedLemmas.{blocks_speed-bounded, length-anchors, tracks-bounded}
-use Rattle.snapshots.proofs.bounded.keep_bounded.Given.{Over}
 use Rattle.snapshots.proofs.bounded.keep_bounded.Goals as goal
 
 pub keep_tracks-requires : goal.keep_tracks-requires

@@ -1,5 +1,5 @@
-use Rattle.std.proofs.Common.{◌≡◌, ◌∙◌, ◌+◌, ◌*◌, ◌<◌, ◌≤◌, ◌++◌, ◌∷◌, [], Some, ap, arith, get_or, length, map, rules, sym, take, ℕ}
-use Rattle.std.proofs.lemmas.List.{get_or_default, length-map, map-append, take_all, take_more}
+use Rattle.std.proofs.Common.{◌≡◌, ◌∙◌, ◌+◌, ◌*◌, ◌<◌, ◌≤◌, Some, ap, arith, get_or, length, rules, sym, ℕ}
+use Rattle.std.proofs.lemmas.List.{get_or_default, length-map}
 use Rattle.std.proofs.lemmas.Option.{slice_get-get_or}
 use Rattle.bit_rank.proofs.RankLemmas.{rank_of-le-place, rank_of-zero}
 use Rattle.k2_tree.specs.Morton.{morton_of}
@@ -8,11 +8,9 @@ use Rattle.snapshots.specs.IndexCost.{blocks_reads}
 use Rattle.snapshots.specs.TrackTree.{morton_of_block}
 use Rattle.snapshots.proofs.ByObjectLemmas.{blocks_reads-listed}
 use Rattle.snapshots.proofs.KeptLemmas.{code-at}
-use Rattle.snapshots.proofs.OnesLemmas.{map-range_more}
+use Rattle.snapshots.proofs.FoundLemmas.{AreFound-all, AreFoundBefore-more}
+use Rattle.snapshots.proofs.OnesLemmas.{length-first_ones}
 use Rattle.std.specs.Prelude.{if◌then◌else◌}
-use Rattle.std.specs.List.{range_with_len}
-use Rattle.std.proofs.lemmas.List.FromFn.{length-map-range_with_len}
-use Rattle.bit_rank.specs.Bits.{select_of}
 use Rattle.bit_rank.specs.Cost.{select_reads, window_reads}
 use Rattle.object_perm.specs.Cost.{at_reads}
 use Rattle.k2_tree.specs.Tree.{Tree, codes_of}
@@ -26,13 +24,12 @@ use Rattle.snapshots.proofs.finding.find_blocks.Goals.{After-len-place-end, then
 -- as many places as objects are present
 count : (g : Over) (c : After-len-place-end g) → c.len-place-end.result ≡ length c.args.snapshot.now.parts.perm
 count g c =
-    let view = c.args.snapshot.now in
-    let n : ℕ = length view.parts.perm in
+    let parts = c.args.snapshot.now.parts in
     omega (
       arith,
       c.len-place-end.ensures,
       ap length c.in_ok-present.ensures.ok,
-      length-map-range_with_len (λ rank. select_of view.parts.present (rank + 1)) 0 n,
+      length-first_ones parts.present (length parts.perm),
     )
 
 -- the tree's cells
@@ -117,22 +114,14 @@ returns-in_err-push-clause-cost g c =
     reads g (goal.at.returns-in_err-push-clause-cost g c).After-len-place-end c.loop-place.place c.loop-place.steps _
     c.loop-place-test.true c.loop-place.invariant.reads c.block_among-rank.ensures.cost
 
-pub returns-in_err-push-2-clause-cost : goal.returns-in_err-push-2-clause-cost
-returns-in_err-push-2-clause-cost g c =
-    reads g (goal.at.returns-in_err-push-2-clause-cost g c).After-len-place-end c.loop-place.place c.loop-place.steps _
-    c.loop-place-test.true c.loop-place.invariant.reads c.block_among-rank.ensures.cost
-
-pub returns-in_err-push-3-clause-cost : goal.returns-in_err-push-3-clause-cost
-returns-in_err-push-3-clause-cost g c =
-    reads g (goal.at.returns-in_err-push-3-clause-cost g c).After-len-place-end c.loop-place.place c.loop-place.steps _
-    c.loop-place-test.true c.loop-place.invariant.reads c.block_among-rank.ensures.cost
-
 pub loop-place-init : goal.loop-place-init
 loop-place-init g c = record {
   leaf = sym (rank_of-zero c.args.snapshot.now.parts.lasts);
-  blocks = c.in_ok-by_leaf.ensures.items;
-  codes = c.in_ok-codes.ensures.items;
-  ranks = c.in_ok-ranks.ensures.items;
+  found = record {
+    blocks_are = c.in_ok-found.ensures.by_leaf;
+    codes_are = c.in_ok-found.ensures.codes;
+    ranks_are = c.in_ok-found.ensures.ranks;
+  };
   reads = omega (
     arith,
     c.in_ok-listing.ensures.cost,
@@ -169,17 +158,9 @@ loop-place-preserved g c =
             w.leaf-is ∙ before.leaf
             ∙ sym (c.is_last.ensures.next ∙ ap (λ b. leaf_at view place + (if b then 1 else 0)) w.if-is_last.false ∙ same)
       ];
-      blocks = c.in_ok-push.ensures.items ∙ ap (λ xs. xs ++ c.block_among-rank.result.1 ∷ []) before.blocks
-          ∙ ap (λ b. map (block_at view) (range_with_len 0 place) ++ b ∷ []) c.block_among-rank.ensures.value
-          ∙ sym (map-range_more (block_at view) place);
-      codes = c.in_ok-push-2.ensures.items ∙ ap (λ xs. xs ++ code ∷ []) before.codes
-          ∙ ap (λ n. map (morton_of_block view.frame) (map (block_at view) (range_with_len 0 place)) ++ n ∷ []) read
-          ∙ sym (map-append (morton_of_block view.frame) (map (block_at view) (range_with_len 0 place))
-          (block_at view place ∷ []))
-          ∙ ap (map (morton_of_block view.frame)) (sym (map-range_more (block_at view) place));
-      ranks = c.in_ok-push-3.ensures.items ∙ ap (λ xs. xs ++ c.block_among-rank.result.0 ∷ []) before.ranks
-          ∙ ap (λ r. take place view.parts.perm ++ r ∷ []) c.block_among-rank.ensures.rank
-          ∙ sym (take_more view.parts.perm place 0 (here g at.After-len-place-end place c.loop-place-test.true));
+      found = AreFoundBefore-more view place c.loop-place.found before.found c.push.new.self c.block_among-rank.result.0 code
+          c.block_among-rank.result.1 (here g at.After-len-place-end place c.loop-place-test.true) c.block_among-rank.ensures.rank
+          c.block_among-rank.ensures.value read c.in_ok-push.ensures.by_leaf c.in_ok-push.ensures.codes c.in_ok-push.ensures.ranks;
       reads = omega (arith, before.reads, c.block_among-rank.ensures.cost, c.is_last.ensures.cost);
     }
 
@@ -190,16 +171,9 @@ all g c place end within = omega (arith, end, within, count g c)
 
 pub returns-clause-found : goal.returns-clause-found
 returns-clause-found g c =
-    let view = c.args.snapshot.now in
-    let at = goal.at.returns-clause-found g c in
-    let last = all g at.After-len-place-end c.loop-place.place c.loop-place-test.false c.loop-place.auto.place-end in
-    record {
-      snapshot = c.tree.ensures.snapshot;
-      blocks_are = c.loop-place.invariant.blocks ∙ ap (λ n. map (block_at view) (range_with_len 0 n)) last;
-      codes_are = c.loop-place.invariant.codes
-          ∙ ap (λ n. map (morton_of_block view.frame) (map (block_at view) (range_with_len 0 n))) last;
-      ranks_are = c.loop-place.invariant.ranks ∙ take_all c.loop-place.place view.parts.perm (omega (arith, last));
-    }
+    AreFound-all c.args.snapshot.now c.loop-place.place c.loop-place.found c.loop-place.invariant.found c.tree.ensures.snapshot
+    (all g (goal.at.returns-clause-found g c).After-len-place-end c.loop-place.place c.loop-place-test.false
+    c.loop-place.auto.place-end)
 
 pub returns-clause-cost : goal.returns-clause-cost
 returns-clause-cost g c =
@@ -222,26 +196,8 @@ returns-in_err-present-clause-cost g c =
       ap (λ t. length (squares_of t)) c.tree.ensures.value,
     ))
 
-pub returns-in_err-by_leaf-clause-cost : goal.returns-in_err-by_leaf-clause-cost
-returns-in_err-by_leaf-clause-cost g c =
-    blocks_reads-listed c.args.snapshot.now _ c.args.steps.now c.tree.ensures.snapshot (omega (
-      arith,
-      c.listing.ensures.cost,
-      c.present.ensures.cost,
-      ap (λ t. length (squares_of t)) c.tree.ensures.value,
-    ))
-
-pub returns-in_err-codes-clause-cost : goal.returns-in_err-codes-clause-cost
-returns-in_err-codes-clause-cost g c =
-    blocks_reads-listed c.args.snapshot.now _ c.args.steps.now c.tree.ensures.snapshot (omega (
-      arith,
-      c.listing.ensures.cost,
-      c.present.ensures.cost,
-      ap (λ t. length (squares_of t)) c.tree.ensures.value,
-    ))
-
-pub returns-in_err-ranks-clause-cost : goal.returns-in_err-ranks-clause-cost
-returns-in_err-ranks-clause-cost g c =
+pub returns-in_err-found-clause-cost : goal.returns-in_err-found-clause-cost
+returns-in_err-found-clause-cost g c =
     blocks_reads-listed c.args.snapshot.now _ c.args.steps.now c.tree.ensures.snapshot (omega (
       arith,
       c.listing.ensures.cost,

@@ -1,11 +1,6 @@
-use Rattle.std.proofs.Common.{◌∙◌, ◌≡◌, ◌+◌, ◌*◌, ◌<◌, ◌≤◌, ◌++◌, ◌∷◌, [], ap, arith, length, map, rules, subst, sym, take, ℕ}
-use Rattle.std.specs.List.{range_with_len}
-use Rattle.std.proofs.lemmas.List.{map-append, take_all, take_more}
-use Rattle.std.proofs.lemmas.List.FromFn.{length-map-range_with_len}
-use Rattle.bit_rank.specs.Bits.{select_of}
+use Rattle.std.proofs.Common.{◌∙◌, ◌≡◌, ◌+◌, ◌*◌, ◌<◌, ◌≤◌, ap, arith, length, subst, sym, ℕ}
 use Rattle.bit_rank.specs.Cost.{select_reads}
 use Rattle.object_perm.specs.Cost.{at_reads}
-use Rattle.track_types.specs.declared.cell.Cell.{Cell}
 use Rattle.track_types.specs.declared.frame.Frame.{Frame}
 use Rattle.k2_tree.specs.Morton.{IsInGrid, morton_of}
 use Rattle.snapshots.specs.IndexCost.{blocks_reads}
@@ -14,7 +9,8 @@ use Rattle.snapshots.specs.View.{block_at}
 use Rattle.snapshots.specs.declared.anchored.Anchored.{Anchored}
 use Rattle.snapshots.proofs.BoundedLemmas.{inside-at}
 use Rattle.snapshots.proofs.ByObjectLemmas.{blocks_reads-listed}
-use Rattle.snapshots.proofs.OnesLemmas.{map-range_more}
+use Rattle.snapshots.proofs.FoundLemmas.{AreFound-all, AreFoundBefore-more}
+use Rattle.snapshots.proofs.OnesLemmas.{length-first_ones}
 use Rattle.snapshots.proofs.PlacesLemmas.{few_places}
 use Rattle.snapshots.proofs.finding.find_bounded.Given.{Over}
 use Rattle.snapshots.proofs.finding.find_bounded.Goals as goal
@@ -23,13 +19,12 @@ use Rattle.snapshots.proofs.finding.find_bounded.Goals.{After-len-place-end}
 -- as many places as objects are present
 count : (g : Over) (c : After-len-place-end g) → c.len-place-end.result ≡ length c.args.snapshot.now.parts.perm
 count g c =
-    let view = c.args.snapshot.now in
-    let n : ℕ = length view.parts.perm in
+    let parts = c.args.snapshot.now.parts in
     omega (
       arith,
       c.len-place-end.ensures,
       ap length c.in_ok-present.ensures.ok,
-      length-map-range_with_len (λ rank. select_of view.parts.present (rank + 1)) 0 n,
+      length-first_ones parts.present (length parts.perm),
     )
 
 -- the reads are within those of all blocks
@@ -44,16 +39,8 @@ pub returns-in_err-present-clause-cost : goal.returns-in_err-present-clause-cost
 returns-in_err-present-clause-cost g c =
     blocks_reads-listed c.args.snapshot.now _ c.args.steps.now c.frame.ensures.snapshot (omega (arith, c.present.ensures.cost))
 
-pub returns-in_err-by_leaf-clause-cost : goal.returns-in_err-by_leaf-clause-cost
-returns-in_err-by_leaf-clause-cost g c =
-    blocks_reads-listed c.args.snapshot.now _ c.args.steps.now c.frame.ensures.snapshot (omega (arith, c.present.ensures.cost))
-
-pub returns-in_err-codes-clause-cost : goal.returns-in_err-codes-clause-cost
-returns-in_err-codes-clause-cost g c =
-    blocks_reads-listed c.args.snapshot.now _ c.args.steps.now c.frame.ensures.snapshot (omega (arith, c.present.ensures.cost))
-
-pub returns-in_err-ranks-clause-cost : goal.returns-in_err-ranks-clause-cost
-returns-in_err-ranks-clause-cost g c =
+pub returns-in_err-found-clause-cost : goal.returns-in_err-found-clause-cost
+returns-in_err-found-clause-cost g c =
     blocks_reads-listed c.args.snapshot.now _ c.args.steps.now c.frame.ensures.snapshot (omega (arith, c.present.ensures.cost))
 
 pub overflow_cast-place-end : goal.overflow_cast-place-end
@@ -88,15 +75,15 @@ returns-in_err-push-clause-cost g c =
     reads g (goal.at.returns-in_err-push-clause-cost g c).After-len-place-end c.loop-place.place c.loop-place.steps _
     c.loop-place-test.true c.loop-place.invariant.reads c.block_bounded-rank.ensures.cost
 
-pub returns-in_err-push-2-clause-cost : goal.returns-in_err-push-2-clause-cost
-returns-in_err-push-2-clause-cost g c =
-    reads g (goal.at.returns-in_err-push-2-clause-cost g c).After-len-place-end c.loop-place.place c.loop-place.steps _
-    c.loop-place-test.true c.loop-place.invariant.reads c.block_bounded-rank.ensures.cost
-
-pub returns-in_err-push-3-clause-cost : goal.returns-in_err-push-3-clause-cost
-returns-in_err-push-3-clause-cost g c =
-    reads g (goal.at.returns-in_err-push-3-clause-cost g c).After-len-place-end c.loop-place.place c.loop-place.steps _
-    c.loop-place-test.true c.loop-place.invariant.reads c.block_bounded-rank.ensures.cost
+pub loop-place-init : goal.loop-place-init
+loop-place-init g c = record {
+  found = record {
+    blocks_are = c.in_ok-found.ensures.by_leaf;
+    codes_are = c.in_ok-found.ensures.codes;
+    ranks_are = c.in_ok-found.ensures.ranks;
+  };
+  reads = omega (arith, c.present.ensures.cost);
+}
 
 pub loop-place-preserved : goal.loop-place-preserved
 loop-place-preserved g c =
@@ -108,17 +95,10 @@ loop-place-preserved g c =
     c.morton.ensures ∙ ap (λ (f : Frame). morton_of f.height f.base c.block_bounded-rank.result.1.cell) c.frame.ensures.value
     ∙ ap (morton_of_block view.frame) c.block_bounded-rank.ensures.value in
     record {
-      blocks = c.in_ok-push.ensures.items ∙ ap (λ xs. xs ++ c.block_bounded-rank.result.1 ∷ []) before.blocks
-          ∙ ap (λ b. map (block_at view) (range_with_len 0 place) ++ b ∷ []) c.block_bounded-rank.ensures.value
-          ∙ sym (map-range_more (block_at view) place);
-      codes = c.in_ok-push-2.ensures.items ∙ ap (λ xs. xs ++ c.morton.result ∷ []) before.codes
-          ∙ ap (λ n. map (morton_of_block view.frame) (map (block_at view) (range_with_len 0 place)) ++ n ∷ []) read
-          ∙ sym (map-append (morton_of_block view.frame) (map (block_at view) (range_with_len 0 place))
-          (block_at view place ∷ []))
-          ∙ ap (map (morton_of_block view.frame)) (sym (map-range_more (block_at view) place));
-      ranks = c.in_ok-push-3.ensures.items ∙ ap (λ xs. xs ++ c.block_bounded-rank.result.0 ∷ []) before.ranks
-          ∙ ap (λ r. take place view.parts.perm ++ r ∷ []) c.block_bounded-rank.ensures.rank
-          ∙ sym (take_more view.parts.perm place 0 (omega (arith, c.loop-place-test.true, count g at)));
+      found = AreFoundBefore-more view place c.loop-place.found before.found c.push.new.self c.block_bounded-rank.result.0
+          c.morton.result c.block_bounded-rank.result.1 (omega (arith, c.loop-place-test.true, count g at))
+          c.block_bounded-rank.ensures.rank c.block_bounded-rank.ensures.value read c.in_ok-push.ensures.by_leaf
+          c.in_ok-push.ensures.codes c.in_ok-push.ensures.ranks;
       reads = omega (arith, before.reads, c.block_bounded-rank.ensures.cost);
     }
 
@@ -129,16 +109,9 @@ all g c place end within = omega (arith, end, within, count g c)
 
 pub returns-clause-found : goal.returns-clause-found
 returns-clause-found g c =
-    let view = c.args.snapshot.now in
-    let at = goal.at.returns-clause-found g c in
-    let last = all g at.After-len-place-end c.loop-place.place c.loop-place-test.false c.loop-place.auto.place-end in
-    record {
-      snapshot = c.frame.ensures.snapshot;
-      blocks_are = c.loop-place.invariant.blocks ∙ ap (λ n. map (block_at view) (range_with_len 0 n)) last;
-      codes_are = c.loop-place.invariant.codes
-          ∙ ap (λ n. map (morton_of_block view.frame) (map (block_at view) (range_with_len 0 n))) last;
-      ranks_are = c.loop-place.invariant.ranks ∙ take_all c.loop-place.place view.parts.perm (omega (arith, last));
-    }
+    AreFound-all c.args.snapshot.now c.loop-place.place c.loop-place.found c.loop-place.invariant.found c.frame.ensures.snapshot
+    (all g (goal.at.returns-clause-found g c).After-len-place-end c.loop-place.place c.loop-place-test.false
+    c.loop-place.auto.place-end)
 
 pub returns-clause-cost : goal.returns-clause-cost
 returns-clause-cost g c =

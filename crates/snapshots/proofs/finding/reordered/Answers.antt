@@ -1,4 +1,4 @@
-use Rattle.std.proofs.Common.{◌≡◌, ◌<◌, ◌≤◌, ap, arith, get_or, length, rules, sym, ◌∙◌, subst}
+use Rattle.std.proofs.Common.{◌≡◌, ◌<◌, arith, get_or, length, rules, subst}
 use Rattle.std.proofs.lemmas.List.{get_or_default}
 use Rattle.snapshots.specs.Found.{ArePut}
 use Rattle.snapshots.proofs.ByObjectLemmas.{put-more, put-none}

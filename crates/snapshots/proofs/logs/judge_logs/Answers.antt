@@ -1,16 +1,15 @@
-use Rattle.std.proofs.Common.{◌≡◌, ◌<◌, ◌≤◌, ◌+◌, ◌∷◌, ◌++◌, [], pos, None, Some, List, length, max, arith, ap, get_or, refl, subst, sym, take, map, ◌∙◌}
+use Rattle.std.proofs.Common.{◌≡◌, ◌<◌, ◌≤◌, ◌+◌, ◌∷◌, ◌++◌, [], pos, length, max, arith, ap, get_or, refl, subst, sym, take, map, ◌∙◌}
 use Rattle.std.specs.Prelude.{fold, sum}
 use Rattle.std.proofs.lemmas.List.{map-append, take_all, take_more}
 use Rattle.std.proofs.lemmas.Result.{err_from_is_err_and}
 use Rattle.list_laws.proofs.GreatestLemmas.{fold_max-more}
 use Rattle.rule_store.specs.View.{RulesView}
-use Rattle.track_types.specs.declared.limit.TheConstants.{MAX_OBJECTS, MAX_SYMBOLS}
+use Rattle.track_types.specs.declared.limit.TheConstants.{MAX_SYMBOLS}
 use Rattle.rule_store.proofs.NeedsLemmas.{within-places}
 use Rattle.snapshots.specs.Flaws.{IsSnapFaultFor}
 use Rattle.snapshots.specs.Needs.{log_places}
 use Rattle.snapshots.specs.Speed.{block_speed, blocks_speed}
 use Rattle.snapshots.specs.Tracks.{track_box}
-use Rattle.snapshots.specs.View.{all_blocks}
 use Rattle.snapshots.specs.declared.anchored.Anchored.{Anchored}
 use Rattle.snapshots.proofs.ByObjectLemmas.{length-all_blocks}
 use Rattle.snapshots.proofs.JudgingLemmas.{blocks_flaw-at, blocks_flaw-none, cell-within, none-more, read-at, same_flaw, taken-read, IsTaken}

@@ -1,9 +1,9 @@
-use Rattle.std.proofs.Common.{◌≡◌, length, ap, arith, subst, sym, map, All, ◌∙◌}
+use Rattle.std.proofs.Common.{◌≡◌, length, ap, subst, sym, map, All, ◌∙◌}
 use Rattle.std.proofs.lemmas.List.{length-map}
 use Rattle.object_perm.specs.Permutation.{PermutesPlaces}
 use Rattle.box_tree.specs.Boxes.{IsFrom}
 use Rattle.snapshots.specs.Found.{ArePut}
-use Rattle.snapshots.specs.Tracks.{blocks_by_leaf, track_box}
+use Rattle.snapshots.specs.Tracks.{track_box}
 use Rattle.snapshots.specs.View.{all_blocks}
 use Rattle.snapshots.proofs.ByObjectLemmas.{length-all_blocks, put-all}
 use Rattle.snapshots.proofs.KeptLemmas.{length-by_leaf, tracks-from}

@@ -1,27 +1,43 @@
-use Rattle.std.proofs.Common.{length, map, ap, sym, subst, ◌∙◌, arith}
-use Rattle.std.specs.List.Sorted.{IsStrictlyIncreasing}
+use Rattle.std.proofs.Common.{◌≡◌, ap, arith, length, sym, subst, ◌∙◌}
+use Rattle.std.proofs.lemmas.List.{length-map}
 use Rattle.k2_tree.specs.Morton.{morton_of}
-use Rattle.snapshots.specs.Upgrade.{newest}
+use Rattle.k2_tree.specs.Tree.{codes_of, tree_bits}
+use Rattle.k2_tree.specs.TreeBits.{Rises}
+use Rattle.snapshots.specs.View.{tree_in}
 use Rattle.snapshots.proofs.SoundLemmas.{wide_of-fits}
-use Rattle.snapshots.proofs.UpgradeLemmas.{few_cells, increasing-rises}
+use Rattle.snapshots.proofs.UpgradeLemmas.{few_cells}
+use Rattle.snapshots.proofs.upgrading.newest_tree.Given.{Over}
 use Rattle.snapshots.proofs.upgrading.newest_tree.Goals as goal
+use Rattle.snapshots.proofs.upgrading.newest_tree.Goals.{After-as_slice}
 
-pub build-requires-clause-few : goal.build-requires-clause-few
-build-requires-clause-few g c =
+-- the Morton numbers are those of the tree
+codes : (g : Over) (c : After-as_slice g) → c.as_slice.result.now ≡ codes_of (tree_in c.args.snapshot.now)
+codes g c = c.as_slice.ensures.value ∙ c.in_ok-listing.ensures.codes ∙ ap codes_of c.tree.ensures.value
+
+pub bits_of_codes-requires-clause-ascending : goal.bits_of_codes-requires-clause-ascending
+bits_of_codes-requires-clause-ascending g c =
+    subst (Rises 0) (sym (codes g (goal.at.bits_of_codes-requires-clause-ascending g c).After-as_slice))
+    c.tree.ensures.snapshot.sound.tree.is_tree.codes.rising
+
+pub bits_of_codes-requires-clause-few : goal.bits_of_codes-requires-clause-few
+bits_of_codes-requires-clause-few g c =
+    let view = c.args.snapshot.now in
     omega (
       arith,
-      ap length (c.deref.ensures.value ∙ c.in_ok-cells.ensures.ok),
-      few_cells c.args.snapshot.now c.frame.ensures.snapshot,
+      ap length (codes g (goal.at.bits_of_codes-requires-clause-few g c).After-as_slice),
+      length-map (tree_in view).cells (morton_of view.frame.height view.frame.base),
+      few_cells view c.tree.ensures.snapshot,
     )
 
-pub build-requires-clause-fits : goal.build-requires-clause-fits
-build-requires-clause-fits g c = omega (arith, c.wide_levels.ensures, wide_of-fits c.newest-frame.result)
+pub bits_of_codes-requires-clause-fits : goal.bits_of_codes-requires-clause-fits
+bits_of_codes-requires-clause-fits g c = omega (arith, c.wide_levels.ensures, wide_of-fits c.newest-frame.result)
 
-pub build-requires-clause-ascending : goal.build-requires-clause-ascending
-build-requires-clause-ascending g c =
-    let view = c.args.snapshot.now in
-    let frame = c.newest-frame.ensures ∙ ap newest c.frame.ensures.value in
-    let cells = c.deref.ensures.value ∙ c.in_ok-cells.ensures.ok in
-    subst (λ frame. IsStrictlyIncreasing (map (morton_of frame.height frame.base) c.deref.result.now)) (sym frame)
-    (subst (λ cells. IsStrictlyIncreasing (map (morton_of view.frame.height view.frame.base) cells)) (sym cells)
-    (increasing-rises 0 _ c.frame.ensures.snapshot.sound.tree.is_tree.codes.rising))
+pub returns-clause-ok : goal.returns-clause-ok
+unfolding tree_bits
+returns-clause-ok g c =
+    rw (
+      c.wide_levels.ensures,
+      codes g (goal.at.returns-clause-ok g c).After-as_slice,
+      c.newest-frame.ensures,
+      c.frame.ensures.value,
+    ) at c.bits_of_codes.ensures.ok

@@ -1,15 +1,13 @@
-use Rattle.std.proofs.Common.{◌≡◌, ◌+◌, ◌<◌, ◌+ℤ◌, Some, ap, arith, get_or, length, sym, ◌∙◌}
+use Rattle.std.proofs.Common.{◌≡◌, ◌<◌, ◌+ℤ◌, Some, ap, arith, get_or, length, sym, ◌∙◌}
 use Rattle.std.specs.Prelude.{slice_get, slice_index}
-use Rattle.std.proofs.lemmas.List.FromFn.{length-map-range_with_len}
 use Rattle.std.proofs.lemmas.Option.{slice_get-get_or}
-use Rattle.bit_rank.specs.Bits.{select_of}
 use Rattle.track_types.specs.declared.frame.Frame.{Frame}
 use Rattle.rule_store.specs.Cells.{cell_with}
 use Rattle.log_bounds.specs.declared.bounds.LogBounds.{LogBounds}
-use Rattle.snapshots.specs.View.{block_at, block_with, leaf_at, tree_in}
-use Rattle.snapshots.proofs.BlockLemmas.{IsRead, block_read, leaf_known}
+use Rattle.snapshots.specs.View.{block_at, leaf_at, tree_in}
+use Rattle.snapshots.proofs.BlockLemmas.{block_at-read, leaf_known}
 use Rattle.snapshots.proofs.BoundedLemmas.{anchor-placed, length-anchors}
-use Rattle.snapshots.proofs.OnesLemmas.{first_ones-at}
+use Rattle.snapshots.proofs.OnesLemmas.{first_ones-at, length-first_ones}
 use Rattle.snapshots.proofs.snapshot.Snapshot.block_bounded.Given.{Over}
 use Rattle.snapshots.proofs.snapshot.Snapshot.block_bounded.Goals as goal
 use Rattle.snapshots.proofs.snapshot.Snapshot.block_bounded.Goals.{After-at-rank}
@@ -32,7 +30,7 @@ bounds-present-rank g c =
       arith,
       within g (goal.at.bounds-present-rank g c).After-at-rank,
       ap length c.requires.present,
-      length-map-range_with_len (λ rank. select_of view.parts.present (rank + 1)) 0 (length view.parts.perm),
+      length-first_ones view.parts.present (length view.parts.perm),
     )
 
 pub returns-clause-value : goal.returns-clause-value
@@ -41,12 +39,9 @@ returns-clause-value g c =
     let is = c.blocks-2.ensures.snapshot in
     let place = c.args.place in
     let log : LogBounds = c.index-bounds-rank.result in
-    let block = block_at view place in
-    let index = get_or c.args.present.now c.at-rank.result 0 in
-    let inside = within g (goal.at.returns-clause-value g c).After-at-rank in
     let rank : c.at-rank.result ≡ slice_index view.parts.perm place =
     c.at-rank.ensures.value ∙ ap (λ perm. slice_index perm place) c.blocks-2.ensures.blocks.perm in
-    let stands : c.anchor_of-cell.result ≡ block.cell =
+    let stands : c.anchor_of-cell.result ≡ (block_at view place).cell =
     c.anchor_of-cell.ensures
     ∙ ap (λ (f : Frame). cell_with (log.from.x +ℤ f.base.x) (log.from.y +ℤ f.base.y)) c.frame.ensures.value
     ∙ anchor-placed view is c.args.bounds.now c.requires.bounds place log c.requires.within
@@ -54,15 +49,11 @@ returns-clause-value g c =
     let found : slice_get (tree_in view).cells (leaf_at view place) ≡ Some c.anchor_of-cell.result =
     slice_get-get_or (tree_in view).cells (leaf_at view place) view.frame.base (leaf_known view place is c.requires.within)
     ∙ ap Some (sym stands) in
-    let facts = c.block.ensures in
-    let read : IsRead view index c.at-rank.result c.anchor_of-cell.result c.block.result =
-    record { number = facts.index; begins = facts.offset; stands = facts.cell; logged = facts.from; long = facts.len }
-    in
-    block_read view index c.at-rank.result place c.anchor_of-cell.result c.block.result read found
-    ∙ ap (λ i. block_with view i c.at-rank.result place)
+    c.block.ensures
+    ∙ block_at-read view (get_or c.args.present.now c.at-rank.result 0) c.at-rank.result place c.anchor_of-cell.result
     (ap (λ xs. get_or xs c.at-rank.result 0) c.requires.present
-    ∙ first_ones-at view.parts.present (length view.parts.perm) c.at-rank.result 0 inside)
-    ∙ ap (λ r. block_with view (select_of view.parts.present (r + 1)) r place) rank
+    ∙ first_ones-at view.parts.present (length view.parts.perm) c.at-rank.result 0
+    (within g (goal.at.returns-clause-value g c).After-at-rank)) rank found
 
 pub returns-clause-rank : goal.returns-clause-rank
 returns-clause-rank g c =

@@ -5,12 +5,11 @@ use Rattle.track_types.specs.declared.frame.Frame.{Frame}
 use Rattle.k2_tree.specs.Flaws.{StandsFor}
 use Rattle.snapshots.specs.View.{SnapshotView, view_with}
 use Rattle.snapshots.specs.Flaws.{bits_flaw, flaw_of, IsSnapFaultFor}
-use Rattle.snapshots.specs.Stored.{blocks_stored, frame_stored, objects_stored, parts_with}
-use Rattle.snapshots.proofs.JudgedLemmas.{flaw_of-cells, flaw_of-perm, snapshot_view-parts, with_checked, IsBegun}
-use Rattle.snapshots.proofs.JudgedLemmas.{IsBegun-found, IsStoredSnapshot-flawless}
+use Rattle.snapshots.proofs.JudgedLemmas.{flaw_of-cells, flaw_of-perm, snapshot_view-parts, IsBegun, IsBegun-found}
+use Rattle.snapshots.proofs.JudgedLemmas.{IsStoredAs, IsStoredSnapshot-flawless}
 use Rattle.snapshots.proofs.SoundLemmas.{IsSoundPeriod-flawless}
 use Rattle.snapshots.proofs.snapshot.Snapshot.check_under.Goals as goal
-use Rattle.snapshots.proofs.snapshot.Snapshot.check_under.Goals.{After-has_cells}
+use Rattle.snapshots.proofs.snapshot.Snapshot.check_under.Goals.{After-has_cells, After-of-2}
 
 -- the header is the one that is kept
 frame_is : (c : After-has_cells) → c.frame-frame.result.now ≡ c.args.header.now.value
@@ -53,50 +52,37 @@ returns-in_err-perm-clause-flaw c =
     let given = err_from_is_err_and c.from_residual-in_err-perm.result c.from_residual-in_err-perm.ensures.1 in
     rw (given.1, given.2) known
 
+-- what is stored is the view
+stored : (c : After-of-2) → StandsFor c.args.header.now.value.height (wide_of c.args.header.now.value)
+    c.args.header.now.value.base c.args.parts.tree c.in_ok-tree.tree
+    → IsStoredAs (view_with c.args.header.now.value c.args.number c.args.objects c.args.start c.args.parts) c.in_ok-tree.tree
+    c.in_ok-perm.perm c.in_ok-store.store c.of.result.value c.of-2.result.value
+stored c stands = record {
+  shaped = c.requires;
+  stands = stands;
+  permuted = c.in_ok-perm.ensures.ok;
+  header = rw (c.in_ok-store.ensures.header, c.in_ok-header.ensures.cases) refl;
+  numbered = c.of.ensures;
+  begins = c.of-2.ensures;
+  objects = c.in_ok-store.ensures.objects;
+  parts = c.in_ok-store.ensures.parts;
+  kept = c.in_ok-store.ensures.tree;
+}
+
 pub invariant_of-result : goal.invariant_of-result
 invariant_of-result c =
     let view : SnapshotView =
     view_with c.args.header.now.value c.args.number c.args.objects c.args.start c.args.parts in
-    let at = (goal.at.invariant_of-result c).After-has_cells in
-    let begun = begun_of at in
-    let blocks = blocks_stored c.in_ok-store.store in
-    let told = ap (λ objects. parts_with objects blocks) (sym c.requires.presence) ∙ c.in_ok-store.ensures.parts
-    ∙ ap (λ bits. with_checked view.parts bits c.in_ok-perm.perm) (stands_of at).same
-    ∙ ap (with_checked view.parts view.parts.tree) c.in_ok-perm.ensures.ok in
-    let same : view_with (frame_stored c.in_ok-store.store) c.of.result.value (objects_stored c.in_ok-store.store)
-    c.of-2.result.value view.parts ≡ view =
-    rw (
-      c.in_ok-store.ensures.header,
-      c.in_ok-header.ensures.cases,
-      c.of.ensures,
-      c.in_ok-store.ensures.objects,
-      c.requires.presence,
-      c.of-2.ensures,
-    ) refl in
-    let none = flaw_of-perm view c.has_cells.result begun c.if-not-has_cells.false ∙ c.in_ok-perm.ensures.exact in
-    IsStoredSnapshot-flawless view c.in_ok-tree.tree _ _ _ _ blocks same (stands_of at) told c.in_ok-store.ensures.tree
-    c.requires none c.in_ok-store.ensures.starts
+    let at = goal.at.invariant_of-result c in
+    let begun = begun_of at.After-has_cells in
+    IsStoredSnapshot-flawless view _ _ _ _ _ (stored at.After-of-2 (stands_of at.After-has_cells))
+    (flaw_of-perm view c.has_cells.result begun c.if-not-has_cells.false ∙ c.in_ok-perm.ensures.exact)
+    c.in_ok-store.ensures.starts
 
 pub returns-clause-ok : goal.returns-clause-ok
 returns-clause-ok c =
-    let view : SnapshotView =
-    view_with c.args.header.now.value c.args.number c.args.objects c.args.start c.args.parts in
-    let at = (goal.at.returns-clause-ok c).After-has_cells in
-    let blocks = blocks_stored c.in_ok-store.store in
-    let told = ap (λ objects. parts_with objects blocks) (sym c.requires.presence) ∙ c.in_ok-store.ensures.parts
-    ∙ ap (λ bits. with_checked view.parts bits c.in_ok-perm.perm) (stands_of at).same
-    ∙ ap (with_checked view.parts view.parts.tree) c.in_ok-perm.ensures.ok in
-    let same : view_with (frame_stored c.in_ok-store.store) c.of.result.value (objects_stored c.in_ok-store.store)
-    c.of-2.result.value view.parts ≡ view =
-    rw (
-      c.in_ok-store.ensures.header,
-      c.in_ok-header.ensures.cases,
-      c.of.ensures,
-      c.in_ok-store.ensures.objects,
-      c.requires.presence,
-      c.of-2.ensures,
-    ) refl in
-    snapshot_view-parts view c.in_ok-tree.tree _ _ _ _ blocks same (stands_of at) told c.in_ok-store.ensures.tree
+    let at = goal.at.returns-clause-ok c in
+    snapshot_view-parts _ _ _ _ _ _ (stored at.After-of-2 (stands_of at.After-has_cells))
 
 pub returns-clause-sound : goal.returns-clause-sound
 returns-clause-sound c =

@@ -1,13 +1,12 @@
-use Rattle.std.proofs.Common.{◌≡◌, ap, length, refl, sym, subst, ◌∙◌}
+use Rattle.std.proofs.Common.{ap, length, refl, subst, ◌∙◌}
 use Rattle.object_perm.proofs.FlawLemmas.{permutes-from_none}
 use Rattle.track_types.specs.Frame.{wide_of}
 use Rattle.track_types.specs.declared.frame.Frame.{Frame}
 use Rattle.k2_tree.specs.Flaws.{StandsFor}
 use Rattle.k2_tree.proofs.CellLemmas.{tree_of-StandsFor}
 use Rattle.snapshots.specs.View.{SnapshotView, view_with}
-use Rattle.snapshots.specs.Stored.{blocks_stored, frame_stored, objects_stored, parts_with}
 use Rattle.snapshots.proofs.FlawlessLemmas.{IsFlawless-from_none}
-use Rattle.snapshots.proofs.JudgedLemmas.{with_checked, IsStoredSnapshot-flawless}
+use Rattle.snapshots.proofs.JudgedLemmas.{IsStoredSnapshot-flawless}
 use Rattle.snapshots.proofs.SoundLemmas.{IsSoundPeriod-flawless}
 use Rattle.snapshots.proofs.snapshot.Snapshot.of_flawless.Goals as goal
 use Rattle.snapshots.proofs.snapshot.Snapshot.of_flawless.Goals.{In_ok-tree}
@@ -46,25 +45,18 @@ store-requires-clause-cells c =
 
 pub invariant_of-result : goal.invariant_of-result
 invariant_of-result c =
-    let view : SnapshotView =
-    view_with c.args.header.now.value c.args.number c.args.objects c.args.start c.args.parts in
-    let stands = stands_of (goal.at.invariant_of-result c).In_ok-tree in
-    let blocks = blocks_stored c.in_ok-store.store in
-    let told = ap (λ objects. parts_with objects blocks) (sym c.requires.shaped.presence) ∙ c.in_ok-store.ensures.parts
-    ∙ ap (λ bits. with_checked view.parts bits c.in_ok-perm.perm) stands.same
-    ∙ ap (with_checked view.parts view.parts.tree) c.in_ok-perm.ensures.ok in
-    let same : view_with (frame_stored c.in_ok-store.store) c.of.result.value (objects_stored c.in_ok-store.store)
-    c.of-2.result.value view.parts ≡ view =
-    rw (
-      c.in_ok-store.ensures.header,
-      c.in_ok-header.ensures.cases,
-      c.of.ensures,
-      c.in_ok-store.ensures.objects,
-      c.requires.shaped.presence,
-      c.of-2.ensures,
-    ) refl in
-    IsStoredSnapshot-flawless view c.in_ok-tree.tree _ _ _ _ blocks same stands told c.in_ok-store.ensures.tree
-    c.requires.shaped c.requires.flawless c.in_ok-store.ensures.starts
+    IsStoredSnapshot-flawless (view_with c.args.header.now.value c.args.number c.args.objects c.args.start c.args.parts)
+    c.in_ok-tree.tree c.in_ok-perm.perm c.in_ok-store.store c.of.result.value c.of-2.result.value (record {
+      shaped = c.requires.shaped;
+      stands = stands_of (goal.at.invariant_of-result c).In_ok-tree;
+      permuted = c.in_ok-perm.ensures.ok;
+      header = rw (c.in_ok-store.ensures.header, c.in_ok-header.ensures.cases) refl;
+      numbered = c.of.ensures;
+      begins = c.of-2.ensures;
+      objects = c.in_ok-store.ensures.objects;
+      parts = c.in_ok-store.ensures.parts;
+      kept = c.in_ok-store.ensures.tree;
+    }) c.requires.flawless c.in_ok-store.ensures.starts
 
 pub returns-clause-sound : goal.returns-clause-sound
 returns-clause-sound c =

@@ -14,7 +14,7 @@ at_place : (g : Over) (c : In_ok-place g) → IsSnapshot (snapshot_in c.args.sel
     × (c.in_ok-place.place < length (snapshot_in c.args.self.now c.args.period).parts.perm)
 at_place g c = (
   subst IsSnapshot c.snapshot.ensures.value c.in_ok-place.ensures.snapshot,
-  subst (λ (s : SnapshotView). c.in_ok-place.place < length s.parts.perm) c.snapshot.ensures.value c.in_ok-place.ensures.within,
+  subst (λ (s : SnapshotView). c.in_ok-place.place < length s.parts.perm) c.snapshot.ensures.value c.in_ok-place.ensures.placed.within,
 )
 
 pub unreachable-requires : goal.unreachable-requires
@@ -37,7 +37,7 @@ returns-clause-value g c =
     ap Some (c.block.ensures.value
     ∙ block_kept-at view at.0 (rules_in c.args.self.now) c.in-Some.kept.now c.in-Some.ensures.kept place at.1)
     ∙ sym (subst (λ (s : SnapshotView). block_of s c.args.index ≡ Some (block_at s place)) c.snapshot.ensures.value
-    c.in_ok-place.ensures.some)
+    c.in_ok-place.ensures.placed.block)
 
 pub returns-clause-block : goal.returns-clause-block
 returns-clause-block g c =

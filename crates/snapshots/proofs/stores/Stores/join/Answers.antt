@@ -1,16 +1,12 @@
-use Rattle.std.proofs.Common.{◌≡◌, ◌+◌, ◌≤◌, arith, ap, length, map, subst, sym, ◌∙◌}
-use Rattle.std.proofs.Math.Nat.{div-le_self}
-use Rattle.std.specs.List.{range_with_len}
+use Rattle.std.proofs.Common.{◌≡◌, arith, ap, length, subst, sym, ◌∙◌}
 use Rattle.std.proofs.lemmas.Result.{err_from_is_err_and}
 use Rattle.track_types.specs.Frame.{periods_of}
-use Rattle.track_types.specs.declared.limit.TheConstants.{MAX_SPAN}
 use Rattle.track_types.specs.declared.parts.Parts.{Parts}
-use Rattle.snapshots.specs.Speed.{speed_of}
 use Rattle.snapshots.specs.View.{SnapshotView}
 use Rattle.snapshots.specs.TrackTree.{IsOfPeriod}
-use Rattle.snapshots.specs.Stores.{join_of, AreTracks}
-use Rattle.snapshots.proofs.JoinLemmas.{length-snaps, logs_flaw-none, reads-within, turn-flaw, turn-more, turn-reads}
-use Rattle.snapshots.proofs.JoinLemmas.{turn-speeds, turn-symbols, turn-tracks, IsJoining, IsTurn, IsTurn-read}
+use Rattle.snapshots.specs.Stores.{join_of}
+use Rattle.snapshots.proofs.JoinLemmas.{few-snaps, length-snaps, logs_flaw-none, reads-within, turn-flaw, turn-joined, turn-reads}
+use Rattle.snapshots.proofs.JoinLemmas.{turn-symbols, IsJoined, IsTurn, IsTurn-read}
 use Rattle.snapshots.proofs.SoundPartsLemmas.{AreStores-joined, IsSound-joined}
 use Rattle.snapshots.proofs.ReachLemmas.{within-reach}
 use Rattle.snapshots.proofs.TrackLemmas.{on-tracks}
@@ -29,9 +25,8 @@ turn_of g c =
 -- what is known after the last turn
 all_joined : (g : Over) (c : After-sizes g)
     → let parts : Parts = join_of c.args.frame c.args.objects c.args.rules c.args.snaps.items in
-    IsJoining parts (periods_of parts.frame) c.args.steps.now c.loop-snapshot.steps
-    × (c.loop-snapshot.speeds.items ≡ map (speed_of parts) (range_with_len 0 (periods_of parts.frame)))
-    × AreTracks parts (periods_of parts.frame) c.loop-snapshot.tracks.items
+    IsJoined parts (periods_of parts.frame) c.args.steps.now c.loop-snapshot.steps c.loop-snapshot.speeds.items
+    c.loop-snapshot.tracks.items
 all_joined g c =
     let parts : Parts = join_of c.args.frame c.args.objects c.args.rules c.args.snaps.items in
     let last : c.loop-snapshot.snapshot-index ≡ periods_of parts.frame =
@@ -41,25 +36,19 @@ all_joined g c =
       ap length c.deref-snapshot-items.ensures.value,
       length-snaps parts c.args.rules c.args.snaps.items c.requires.of,
     ) in
-    subst (λ n. IsJoining parts n c.args.steps.now c.loop-snapshot.steps
-    × (c.loop-snapshot.speeds.items ≡ map (speed_of parts) (range_with_len 0 n))
-    × AreTracks parts n c.loop-snapshot.tracks.items) last
-    (c.loop-snapshot.invariant.joining, c.loop-snapshot.invariant.speeds, c.loop-snapshot.invariant.tracks)
+    subst (λ n. IsJoined parts n c.args.steps.now c.loop-snapshot.steps c.loop-snapshot.speeds.items
+    c.loop-snapshot.tracks.items) last c.loop-snapshot.invariant.joined
 
 -- the turn's number is that of a period
 pub overflow_cast-number : goal.overflow_cast-number
 overflow_cast-number g c =
-    let parts : Parts = join_of c.args.frame c.args.objects c.args.rules c.args.snaps.items in
-    let short : c.args.frame.span ≤ MAX_SPAN = c.requires.of.shaped.header.short in
     omega (
       arith,
       c.len-number.ensures,
       c.loop-snapshot.invariant.filled,
       c.loop-snapshot-test.true,
       ap length c.deref-snapshot-items.ensures.value,
-      length-snaps parts c.args.rules c.args.snaps.items c.requires.of,
-      short,
-      div-le_self c.args.frame.span c.args.frame.period,
+      few-snaps _ c.args.rules c.args.snaps.items c.requires.of,
     )
 
 pub judge_snapshot-requires : goal.judge_snapshot-requires
@@ -76,7 +65,7 @@ judge_snapshot-requires g c =
 pub returns-in_err-judged-clause-flaw : goal.returns-in_err-judged-clause-flaw
 returns-in_err-judged-clause-flaw g c =
     let turn = turn_of g (goal.at.returns-in_err-judged-clause-flaw g c).After-judge_snapshot-arg-1 in
-    let known = turn-flaw _ _ _ _ _ turn c.args.steps.now c.loop-snapshot.steps c.loop-snapshot.invariant.joining
+    let known = turn-flaw _ _ _ _ _ turn c.args.steps.now c.loop-snapshot.steps c.loop-snapshot.invariant.joined.joining
     c.in_err-judged.field-0.0 c.in_err-judged.ensures.flaw in
     let given = err_from_is_err_and c.from_residual-in_err-judged.result c.from_residual-in_err-judged.ensures.1 in
     rw (given.1, given.2) known
@@ -84,7 +73,7 @@ returns-in_err-judged-clause-flaw g c =
 pub returns-in_err-judged-clause-cost : goal.returns-in_err-judged-clause-cost
 returns-in_err-judged-clause-cost g c =
     turn-reads _ _ _ _ _ (turn_of g (goal.at.returns-in_err-judged-clause-cost g c).After-judge_snapshot-arg-1)
-    c.args.steps.now c.loop-snapshot.steps c.loop-snapshot.invariant.joining c.judge_snapshot.new.steps
+    c.args.steps.now c.loop-snapshot.steps c.loop-snapshot.invariant.joined.joining c.judge_snapshot.new.steps
     c.judge_snapshot.ensures.cost
 
 pub push_reserved-requires : goal.push_reserved-requires
@@ -112,19 +101,14 @@ loop-snapshot-preserved g c =
     let turn = turn_of g (goal.at.loop-snapshot-preserved g c).After-judge_snapshot-arg-1 in
     let so_far = c.loop-snapshot.invariant in
     record {
-      joining = turn-more _ _ _ _ _ turn c.args.steps.now c.loop-snapshot.steps so_far.joining
-          c.judge_snapshot.new.steps c.judge_snapshot.ensures.cost c.in_ok-judged.ensures.snapshot
-          c.in_ok-judged.ensures.exact;
-      speeds = c.push_reserved.ensures.items ∙ turn-speeds _ _ _ _ _ turn c.loop-snapshot.speeds.items
-          c.in_ok-judged.judged.speed so_far.speeds c.in_ok-judged.ensures.speed;
+      joined = turn-joined _ _ _ _ _ turn c.args.steps.now c.loop-snapshot.steps c.judge_snapshot.new.steps _ _ _ _
+          c.in_ok-judged.judged so_far.joined c.judge_snapshot.ensures.cost c.in_ok-judged.ensures.snapshot
+          c.in_ok-judged.ensures.exact c.in_ok-judged.ensures.speed c.in_ok-judged.ensures.tracks
+          (subst (λ n. IsOfPeriod n c.in_ok-judged.judged.tracks) (c.len-number.ensures ∙ so_far.filled)
+          c.in_ok-judged.ensures.period)
+          c.push_reserved.ensures.items c.push_reserved-in-loop-snapshot.ensures.items;
       filled = omega (arith, c.push_reserved.ensures.len, so_far.filled);
       room = c.push_reserved.ensures.capacity ∙ so_far.room;
-      tracks = subst (AreTracks _ (c.loop-snapshot.snapshot-index + 1))
-          (sym c.push_reserved-in-loop-snapshot.ensures.items)
-          (turn-tracks _ _ _ _ _ turn c.loop-snapshot.tracks.items c.in_ok-judged.judged.tracks so_far.tracks
-          c.in_ok-judged.ensures.tracks
-          (subst (λ n. IsOfPeriod n c.in_ok-judged.judged.tracks) (c.len-number.ensures ∙ so_far.filled)
-          c.in_ok-judged.ensures.period));
       tracks_filled = omega (arith, c.push_reserved-in-loop-snapshot.ensures.len, so_far.tracks_filled);
       tracks_room = omega (arith, c.push_reserved-in-loop-snapshot.ensures.capacity, so_far.tracks_room);
     }
@@ -133,18 +117,18 @@ pub invariant_of-result : goal.invariant_of-result
 invariant_of-result g c =
     let all = all_joined g (goal.at.invariant_of-result g c).After-sizes in
     AreStores-joined _ c.args.rules c.args.snaps.items c.loop-snapshot.speeds.items c.loop-snapshot.tracks.items
-    c.args.steps.now c.loop-snapshot.steps c.requires.of c.sizes.ensures.sound all.0 all.1 all.2
+    c.args.steps.now c.loop-snapshot.steps c.requires.of c.sizes.ensures.sound all
 
 pub returns-clause-exact : goal.returns-clause-exact
 returns-clause-exact g c =
     let all = all_joined g (goal.at.returns-clause-exact g c).After-sizes in
-    logs_flaw-none _ c.args.rules c.args.snaps.items c.requires.of c.args.steps.now c.loop-snapshot.steps all.0
+    logs_flaw-none _ c.args.rules c.args.snaps.items c.requires.of c.args.steps.now c.loop-snapshot.steps all.joining
 
 pub returns-clause-sound : goal.returns-clause-sound
 returns-clause-sound g c =
     let all = all_joined g (goal.at.returns-clause-sound g c).After-sizes in
     IsSound-joined _ c.args.rules c.args.snaps.items c.args.steps.now c.loop-snapshot.steps c.requires.of
-    c.sizes.ensures.sound all.0
+    c.sizes.ensures.sound all.joining
 
 pub returns-clause-within : goal.returns-clause-within
 returns-clause-within g c =
@@ -153,7 +137,7 @@ returns-clause-within g c =
     within-reach parts (record {
       shaped = c.requires.of.shaped;
       sound = IsSound-joined parts c.args.rules c.args.snaps.items c.args.steps.now c.loop-snapshot.steps c.requires.of
-          c.sizes.ensures.sound all.0;
+          c.sizes.ensures.sound all.joining;
     })
 
 pub returns-clause-tracks : goal.returns-clause-tracks
@@ -162,4 +146,4 @@ returns-clause-tracks g c = λ number within. on-tracks _ number
 pub returns-clause-cost : goal.returns-clause-cost
 returns-clause-cost g c =
     let all = all_joined g (goal.at.returns-clause-cost g c).After-sizes in
-    reads-within _ c.args.rules c.args.snaps.items c.requires.of c.args.steps.now c.loop-snapshot.steps all.0
+    reads-within _ c.args.rules c.args.snaps.items c.requires.of c.args.steps.now c.loop-snapshot.steps all.joining

@@ -1,19 +1,15 @@
-use Rattle.std.proofs.Common.{◌≡◌, ◌<◌, ◌+◌, ◌≤◌, rules, arith, ap, get_or, length, map, subst, sym, vec_len, ◌∙◌}
-use Rattle.std.specs.List.{range_with_len}
-use Rattle.std.proofs.Math.Nat.{div-le_self}
+use Rattle.std.proofs.Common.{◌≡◌, ◌<◌, rules, arith, ap, get_or, length, subst, vec_len, ◌∙◌}
 use Rattle.std.proofs.lemmas.Iterator.Adapters.{YieldsList-from_vec}
 use Rattle.std.proofs.lemmas.Iterator.Consumers.{YieldsList-end, YieldsList-turn}
 use Rattle.std.proofs.lemmas.List.{length_push}
 use Rattle.track_types.specs.Frame.{periods_of}
-use Rattle.track_types.specs.declared.limit.TheConstants.{MAX_SPAN}
 use Rattle.track_types.specs.declared.parts.Parts.{Parts}
 use Rattle.snapshots.specs.Bounded.{blocks_bounds}
-use Rattle.snapshots.specs.Speed.{speed_of}
-use Rattle.snapshots.specs.Stores.{join_of, AreTracks}
+use Rattle.snapshots.specs.Stores.{join_of}
 use Rattle.snapshots.specs.TrackTree.{IsOfPeriod}
 use Rattle.snapshots.proofs.BoundedLemmas.{anchors-bounded, turn-bounds}
-use Rattle.snapshots.proofs.JoinLemmas.{length-snaps, reads-within, snapshot-read, turn-flawless, turn-more, turn-reads}
-use Rattle.snapshots.proofs.JoinLemmas.{turn-speeds, turn-tracks, IsJoining, IsTurn}
+use Rattle.snapshots.proofs.JoinLemmas.{few-snaps, length-snaps, reads-within, snapshot-read, turn-flawless, turn-joined, turn-reads}
+use Rattle.snapshots.proofs.JoinLemmas.{IsJoined, IsTurn}
 use Rattle.snapshots.proofs.SoundPartsLemmas.{AreStores-joined}
 use Rattle.snapshots.proofs.stores.Stores.join_bounded.Given.{Over}
 use Rattle.snapshots.proofs.stores.Stores.join_bounded.Goals as goal
@@ -66,9 +62,8 @@ bounded g c =
 -- what is known after the last turn
 all_joined : (g : Over) (c : After-sizes g)
     → let parts : Parts = join_of c.args.frame c.args.objects c.args.rules c.args.snaps.items in
-    IsJoining parts (periods_of parts.frame) c.args.steps.now c.loop-of_period.steps
-    × (c.loop-of_period.speeds.items ≡ map (speed_of parts) (range_with_len 0 (periods_of parts.frame)))
-    × AreTracks parts (periods_of parts.frame) c.loop-of_period.tracks.items
+    IsJoined parts (periods_of parts.frame) c.args.steps.now c.loop-of_period.steps c.loop-of_period.speeds.items
+    c.loop-of_period.tracks.items
 all_joined g c =
     let parts : Parts = join_of c.args.frame c.args.objects c.args.rules c.args.snaps.items in
     let size : vec_len c.args.bounds ≡ length c.args.bounds.items = search rules in
@@ -77,24 +72,18 @@ all_joined g c =
     (given.1 ∙ size)) c.loop-of_period.yielded c.loop-of_period.of_period-iterator c.loop-of_period.yielded_by
     c.next.result c.next.new.self c.in-None.is c.next.ensures.steps in
     let last : length c.loop-of_period.yielded ≡ periods_of parts.frame = end.1 ∙ c.requires.bounds.long in
-    subst (λ n. IsJoining parts n c.args.steps.now c.loop-of_period.steps
-    × (c.loop-of_period.speeds.items ≡ map (speed_of parts) (range_with_len 0 n))
-    × AreTracks parts n c.loop-of_period.tracks.items) last
-    (c.loop-of_period.invariant.joining, c.loop-of_period.invariant.speeds, c.loop-of_period.invariant.tracks)
+    subst (λ n. IsJoined parts n c.args.steps.now c.loop-of_period.steps c.loop-of_period.speeds.items
+    c.loop-of_period.tracks.items) last c.loop-of_period.invariant.joined
 
 -- the number of the period fits its type
 pub overflow_cast-number : goal.overflow_cast-number
 overflow_cast-number g c =
-    let parts : Parts = join_of c.args.frame c.args.objects c.args.rules c.args.snaps.items in
-    let short : c.args.frame.span ≤ MAX_SPAN = c.requires.of.shaped.header.short in
     omega (
       arith,
       c.len-number.ensures,
       c.loop-of_period.invariant.filled,
       within g (goal.at.overflow_cast-number g c).After-index-snapshot,
-      length-snaps parts c.args.rules c.args.snaps.items c.requires.of,
-      short,
-      div-le_self c.args.frame.span c.args.frame.period,
+      few-snaps _ c.args.rules c.args.snaps.items c.requires.of,
     )
 
 pub keep_bounded-requires : goal.keep_bounded-requires
@@ -108,7 +97,7 @@ keep_bounded-requires g c =
 pub returns-in_err-kept-clause-cost : goal.returns-in_err-kept-clause-cost
 returns-in_err-kept-clause-cost g c =
     turn-reads _ _ _ _ _ (turn g (goal.at.returns-in_err-kept-clause-cost g c).After-index-snapshot)
-    c.args.steps.now c.loop-of_period.steps c.loop-of_period.invariant.joining c.keep_bounded.new.steps
+    c.args.steps.now c.loop-of_period.steps c.loop-of_period.invariant.joined.joining c.keep_bounded.new.steps
     (omega (arith, c.keep_bounded.ensures.cost))
 
 pub push_reserved-requires : goal.push_reserved-requires
@@ -132,18 +121,14 @@ loop-of_period-preserved g c =
     let so_far = c.loop-of_period.invariant in
     let kept = c.in_ok-kept.kept in
     rw (length_push c.loop-of_period.yielded c.in-Some.of_period) (record {
-      joining = turn-more _ _ _ _ _ turn c.args.steps.now c.loop-of_period.steps so_far.joining c.keep_bounded.new.steps
-          (omega (arith, c.keep_bounded.ensures.cost)) c.in_ok-kept.ensures.snapshot
-          (turn-flawless _ _ _ _ _ turn c.requires.flawless);
-      speeds = c.push_reserved.ensures.items ∙ turn-speeds _ _ _ _ _ turn c.loop-of_period.speeds.items kept.speed
-          so_far.speeds (c.in_ok-kept.ensures.speed c.args.rules bounds);
+      joined = turn-joined _ _ _ _ _ turn c.args.steps.now c.loop-of_period.steps c.keep_bounded.new.steps _ _ _ _ kept
+          so_far.joined (omega (arith, c.keep_bounded.ensures.cost)) c.in_ok-kept.ensures.snapshot
+          (turn-flawless _ _ _ _ _ turn c.requires.flawless) (c.in_ok-kept.ensures.speed c.args.rules bounds)
+          (c.in_ok-kept.ensures.tracks c.args.rules bounds)
+          (subst (λ n. IsOfPeriod n kept.tracks) (c.len-number.ensures ∙ so_far.filled) c.in_ok-kept.ensures.period)
+          c.push_reserved.ensures.items c.push_reserved-in-loop-of_period.ensures.items;
       filled = omega (arith, c.push_reserved.ensures.len, so_far.filled);
       room = omega (arith, c.push_reserved.ensures.capacity, so_far.room);
-      tracks = subst (AreTracks _ (length c.loop-of_period.yielded + 1))
-          (sym c.push_reserved-in-loop-of_period.ensures.items)
-          (turn-tracks _ _ _ _ _ turn c.loop-of_period.tracks.items kept.tracks so_far.tracks
-          (c.in_ok-kept.ensures.tracks c.args.rules bounds)
-          (subst (λ n. IsOfPeriod n kept.tracks) (c.len-number.ensures ∙ so_far.filled) c.in_ok-kept.ensures.period));
       tracks_filled = omega (arith, c.push_reserved-in-loop-of_period.ensures.len, so_far.tracks_filled);
       tracks_room = omega (arith, c.push_reserved-in-loop-of_period.ensures.capacity, so_far.tracks_room);
     })
@@ -152,9 +137,9 @@ pub invariant_of-result : goal.invariant_of-result
 invariant_of-result g c =
     let all = all_joined g (goal.at.invariant_of-result g c).After-sizes in
     AreStores-joined _ c.args.rules c.args.snaps.items c.loop-of_period.speeds.items c.loop-of_period.tracks.items
-    c.args.steps.now c.loop-of_period.steps c.requires.of c.sizes.ensures.sound all.0 all.1 all.2
+    c.args.steps.now c.loop-of_period.steps c.requires.of c.sizes.ensures.sound all
 
 pub returns-clause-cost : goal.returns-clause-cost
 returns-clause-cost g c =
     let all = all_joined g (goal.at.returns-clause-cost g c).After-sizes in
-    reads-within _ c.args.rules c.args.snaps.items c.requires.of c.args.steps.now c.loop-of_period.steps all.0
+    reads-within _ c.args.rules c.args.snaps.items c.requires.of c.args.steps.now c.loop-of_period.steps all.joining
