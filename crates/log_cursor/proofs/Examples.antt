@@ -1,5 +1,5 @@
 -- The definitions, run on a worked block.
-use Rattle.std.proofs.Common.{◌≡◌, ℕ, ℤ, pos, List, [], ◌∷◌, Some, None, refl, sym, arith}
+use Rattle.std.proofs.Common.{◌≡◌, ℕ, ℤ, pos, Bool, true, false, List, [], ◌∷◌, map, Some, None, refl, sym, arith}
 use Rattle.std.proofs.lemmas.Int.{ints}
 use Rattle.track_types.specs.declared.region.Region.{Region}
 use Rattle.track_types.specs.declared.region.Region.TheVariants.{Disc, Rect}
@@ -13,7 +13,7 @@ use Rattle.list_laws.specs.Grown.{table_of_rules}
 use Rattle.spiral_code.specs.Spiral.{move_of}
 use Rattle.log_cursor.specs.Seek.{cell_among}
 use Rattle.log_cursor.specs.Start.{start_at}
-use Rattle.log_cursor.specs.Touching.{first_hit_of, touching_count}
+use Rattle.log_cursor.specs.Touching.{first_hit_of, holding_rule, touching_count}
 use Rattle.log_cursor.specs.Walk.{at_rest, begins_left, reads_to, walk_from}
 use Rattle.log_cursor.specs.declared.start.Start.{Start}
 use Rattle.log_cursor.proofs.WalkLemmas.{walk_from-empty}
@@ -96,3 +96,17 @@ touches_in_time = refl
 needs_no_rule : touching_count four anchor log (pos 10) (pos 20) (Disc (pos 8) (pos 5) 0) ≡ 0
 unfolding touching_count nodes_in parsed table_of_rules bounding_box_of box_round cells_along displacement_of move_of
 needs_no_rule = refl
+
+-- rule 2 is the movement and the absence, and rule 3 is two absences
+abbrev apart : RulesView
+apart = rules_with (0 ∷ 2 ∷ []) ((1, 0) ∷ (0, 0) ∷ []) (2 ∷ 3 ∷ []) 4 9
+
+-- the rules that hold an instant of both, one after the other
+abbrev holding : ℤ → List Bool
+holding instant = map (holding_rule apart anchor (2 ∷ 3 ∷ []) instant) (2 ∷ 3 ∷ [])
+
+-- none holds the anchor's, and rule 2 those of its two terminals; rule 3 has no box
+holds_instants : map holding (pos 10 ∷ pos 11 ∷ pos 12 ∷ pos 13 ∷ [])
+    ≡ (false ∷ false ∷ []) ∷ (true ∷ false ∷ []) ∷ (true ∷ false ∷ []) ∷ (false ∷ false ∷ []) ∷ []
+unfolding holding_rule nodes_in parsed table_of_rules expansion_of bounding_box_of box_round cells_along move_of
+holds_instants = refl

@@ -1,5 +1,5 @@
 -- The cell at an instant, symbol by symbol.
-use Rattle.std.proofs.Common.{◌≡◌, ℕ, drop, max, ◌+◌, ◌<◌, ◌≤◌, ℤ, pos, ◌+ℤ◌, ◌≤ℤ◌, ◌<ℤ◌, true, List, [], ◌∷◌, ◌++◌, length, filter, Some, None, refl, ap, add-one, sym, subst, ◌∙◌, arith}
+use Rattle.std.proofs.Common.{◌≡◌, ℕ, drop, max, ◌+◌, ◌<◌, ◌≤◌, ℤ, pos, ◌+ℤ◌, ◌≤ℤ◌, ◌<ℤ◌, true, IsTrue, List, [], ◌∷◌, ◌++◌, length, filter, Some, None, refl, ap, add-one, sym, subst, ◌∙◌, arith}
 use Rattle.std.specs.Option.{is_some}
 use Rattle.std.specs.Ordering.{int_eq}
 use Rattle.std.specs.Prelude.{slice_index}
@@ -17,16 +17,20 @@ use Rattle.rule_store.specs.Cells.{cells_along}
 use Rattle.rule_store.specs.Boxes.{bounding_box_of}
 use Rattle.rule_store.specs.Cost.{parts_reads}
 use Rattle.rule_store.specs.Entry.{entry_of}
-use Rattle.rule_store.specs.Flaws.{left_of, right_of}
+use Rattle.rule_store.specs.Flaws.{AreRules, left_of, right_of}
 use Rattle.rule_store.specs.declared.entry.Entry.{Entry}
 use Rattle.rule_store.specs.Log.{block_stops, log_values, stops_after}
 use Rattle.rule_store.proofs.ExpansionLemmas.{values_of-terminal}
 use Rattle.rule_store.proofs.LogLemmas.{stops_after-none}
+use Rattle.log_cursor.specs.Needs.{RulesWithin}
 use Rattle.log_cursor.specs.Seek.{IsInside, IsSeeking, cell_among, is_stop_at}
 use Rattle.log_cursor.specs.Start.{IsStart, IsWayOf, start_after, start_past}
+use Rattle.log_cursor.specs.Touching.{holding_rule}
+use Rattle.log_cursor.specs.Turn.{has_hull, opening_rule}
 use Rattle.log_cursor.specs.declared.start.Start.{Start}
-use Rattle.log_cursor.proofs.RuleLemmas.{depth_of-parts, stops_after-parts, values_of-parts}
+use Rattle.log_cursor.proofs.RuleLemmas.{depth_of-parts, parts-below, stops_after-parts, values_of-parts}
 use Rattle.log_cursor.proofs.StackLemmas.{own_entry, own_symbol}
+use Rattle.log_cursor.proofs.TouchLemmas.{opening_rule-first, opening_rule-later, opening_rule-own, opening_rule-parts}
 use Rattle.log_cursor.proofs.WayLemmas.{IsWayOf-first, IsWayOf-parts, hull_is, next-way, start_after-is}
 use Rattle.log_cursor.proofs.StopLemmas.{filter-stops_from, int_eq-apart, stops_after-first, symbol_stops, symbol_stops-absent, symbol_stops-fail, symbol_stops-terminal}
 
@@ -125,6 +129,37 @@ module _ (rules : RulesView) (instant : ℤ) (start : Start) (symbol : ℕ) wher
       (Decides-int_eq instant past.instant).1 (omega (arith, ints, one, late, early)) in
       rw (stops_after-first rules start symbol [], symbol_stops-terminal rules start symbol terminal some, here) refl
 
+  -- the rules that hold it in the symbols after the first one hold it in all
+  pub holding_rule-later : (log : List ℕ) →
+      RulesWithin (holding_rule rules past log instant) (holding_rule rules start (symbol ∷ log) instant)
+  unfolding holding_rule opening_rule
+  holding_rule-later log = opening_rule-later rules instant instant has_hull start symbol log
+
+  -- so do those that hold it in the first one
+  pub holding_rule-first : (log : List ℕ) →
+      RulesWithin (holding_rule rules start (symbol ∷ []) instant) (holding_rule rules start (symbol ∷ log) instant)
+  unfolding holding_rule opening_rule
+  holding_rule-first log = opening_rule-first rules instant instant has_hull start symbol log
+
+  -- a rule
+  module _ (rule : length rules.alphabet ≤ symbol) (known : symbol < symbols_in rules)
+      (left_below : left_of rules symbol < symbol) (right_below : right_of rules symbol < symbol) where
+    -- holds it where it has it, and a box
+    pub holding_rule-own : start.instant <ℤ instant → instant ≤ℤ past.instant →
+        is_some (bounding_box_of (values_of rules symbol)) ≡ true → IsTrue (holding_rule rules start (symbol ∷ []) instant symbol)
+    unfolding holding_rule opening_rule
+    holding_rule-own late early some =
+        opening_rule-own rules instant instant has_hull symbol [] rule known left_below right_below start
+        (omega (arith, ints)) late early some
+
+    -- and so do those that hold it in its two parts
+    pub holding_rule-parts :
+        RulesWithin (holding_rule rules start (left_of rules symbol ∷ right_of rules symbol ∷ []) instant)
+        (holding_rule rules start (symbol ∷ []) instant)
+    unfolding holding_rule opening_rule
+    holding_rule-parts =
+        opening_rule-parts rules instant instant has_hull symbol [] rule known left_below right_below start
+
 -- the length of what a symbol of an entry stands for
 length_is : (rules : RulesView) (entry : Entry) (symbol : ℕ) → entry ≡ entry_of rules symbol →
     entry.duration ≡ length (values_of rules symbol)
@@ -156,6 +191,18 @@ module _ {rules : RulesView} {outer : ℕ} {start : Start} {instant : ℤ} {befo
       sym (cell_among-absent rules instant at inner.symbol
       (sym (hull_is rules inner inner.symbol inside.is) ∙ none))
       ∙ inside.same
+
+  -- a rule with a box holds it
+  pub inside-opens : AreRules rules → length rules.alphabet ≤ inner.symbol → is_some inner.hull ≡ true →
+      IsTrue (holding_rule rules start (outer ∷ []) instant inner.symbol)
+  inside-opens sound rule some =
+      let below = parts-below rules inner.symbol sound rule inside.known in
+      let long = length_is rules inner inner.symbol inside.is in
+      let reached : instant ≤ℤ (start_past at (values_of rules inner.symbol)).instant =
+      omega (arith, ints, long, inside.within) in
+      let its = rw (hull_is rules inner inner.symbol inside.is) at some in
+      inside.opens inner.symbol
+      (holding_rule-own rules instant at inner.symbol rule inside.known below.0 below.1 inside.after reached its)
 
 -- a rule was opened, and its two parts were read
 pub record IsOpened (rules : RulesView) (outer : ℕ) (start : Start) (instant : ℤ) (before : ℕ) (inner : Entry) (at : Start)
@@ -204,6 +251,12 @@ module _ {rules : RulesView} {outer : ℕ} {start : Start} {instant : ℤ} {befo
       rw (one, other)
       (depth_of-parts rules inner.symbol opened.rule inside.known opened.left_below opened.right_below)
 
+  both_hold : RulesWithin (holding_rule rules at (left.symbol ∷ right.symbol ∷ []) instant)
+      (holding_rule rules start (outer ∷ []) instant)
+  both_hold =
+      rw (one, other) (λ rule holds. inside.opens rule
+      (holding_rule-parts rules instant at inner.symbol opened.rule inside.known opened.left_below opened.right_below rule holds))
+
   sum : inner.duration ≡ left.duration + right.duration
   sum =
       rw (
@@ -236,6 +289,7 @@ module _ {rules : RulesView} {outer : ℕ} {start : Start} {instant : ℤ} {befo
       within = rw leads at first;
       same = sym (cell_among-within rules instant at left.symbol (right.symbol ∷ []) (rw past_is at first)) ∙ both;
       cost = omega (arith, depth, opened.read, inside.cost);
+      opens = λ rule holds. both_hold rule (holding_rule-first rules instant at left.symbol (right.symbol ∷ []) rule holds);
     }
 
     pub inside-right : middle.instant <ℤ instant → IsInside rules outer start instant before right middle after
@@ -247,6 +301,8 @@ module _ {rules : RulesView} {outer : ℕ} {start : Start} {instant : ℤ} {befo
       within = rw leads (omega (arith, ints, sum, inside.within));
       same = rw past_is (sym (cell_among-past rules instant at left.symbol (right.symbol ∷ []) (rw past_is at second))) ∙ both;
       cost = omega (arith, depth, opened.read, inside.cost);
+      opens = rw past_is (λ rule holds. both_hold rule
+          (holding_rule-later rules instant at left.symbol (right.symbol ∷ []) rule holds));
     }
 
 -- a search in a log, at the symbol of a place, which was read
@@ -274,6 +330,10 @@ module _ {rules : RulesView} {log : List ℕ} {start : Start} {instant : ℤ} {b
       ≡ cell_among (block_stops rules start.instant start.cell log) instant
   rest = ap (λ s. cell_among (stops_after rules at.instant at.cell s) instant) (sym split) ∙ reading.seeking.same
 
+  rest_holds : RulesWithin (holding_rule rules at (entry.symbol ∷ drop (i + 1) log) instant)
+      (holding_rule rules start log instant)
+  rest_holds = rw split at reading.seeking.opens
+
   pub seeking-entry : entry ≡ entry_of rules entry.symbol
   seeking-entry = own_entry rules (slice_index log i) entry reading.is
 
@@ -285,6 +345,9 @@ module _ {rules : RulesView} {log : List ℕ} {start : Start} {instant : ℤ} {b
 
   pub seeking-way : IsWayOf rules at (entry.symbol ∷ [])
   seeking-way = IsWayOf-first rules entry.symbol (drop (i + 1) log) at way
+
+  pub seeking-opens : RulesWithin (holding_rule rules at (entry.symbol ∷ []) instant) (holding_rule rules start log instant)
+  seeking-opens = λ rule holds. rest_holds rule (holding_rule-first rules instant at entry.symbol (drop (i + 1) log) rule holds)
 
   module _ {next : Start} (leads : next ≡ start_after at entry) where
     leads_to : next ≡ start_past at (values_of rules entry.symbol)
@@ -305,6 +368,8 @@ module _ {rules : RulesView} {log : List ℕ} {start : Start} {instant : ℤ} {b
       same = rw leads_to (sym (cell_among-past rules instant at entry.symbol (drop (i + 1) log) (rw leads_to at ended)))
           ∙ rest;
       cost = omega (arith, reading.read, reading.seeking.cost);
+      opens = rw leads_to (λ rule holds. rest_holds rule
+          (holding_rule-later rules instant at entry.symbol (drop (i + 1) log) rule holds));
     }
 
 -- a search begins after the anchor
@@ -315,6 +380,7 @@ seeking-first rules log start instant before way late = record {
   after = late;
   same = cell_among-log rules instant start log late;
   cost = omega arith;
+  opens = λ rule holds. holds;
 }
 
 -- and ends after the log

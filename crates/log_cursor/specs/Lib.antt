@@ -1,9 +1,9 @@
 pub mod Start
-pub mod Seek
 pub mod Pending
 pub mod Walk
 pub mod Touching
 pub mod Needs
+pub mod Seek
 pub mod Descent
 pub mod Turn
 pub mod Opened

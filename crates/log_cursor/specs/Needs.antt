@@ -1,4 +1,4 @@
--- Which reads a search of a region needs in a log.
+-- Which reads a search needs in a log.
 use Rattle.std.specs.Prelude.{ℕ, Bool, false, IsTrue}
 use Rattle.step_count.specs.Reads.{Read, ofPeriod, ofRule, ofSymbol}
 use Rattle.rule_store.specs.Needs.{is_among}

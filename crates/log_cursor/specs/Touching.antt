@@ -1,4 +1,4 @@
--- What a search for the first stop in a region finds, and how many rules it opens.
+-- What a search for the first stop in a region finds, and which rules it opens; and which rules hold an instant.
 use Rattle.std.specs.Prelude.{◌≡◌, ℕ, ◌+◌, ◌≤◌, ℤ, Bool, true, false, ◌&&◌, List, [], ◌++◌, length, map, filter, find, slice_index, option_to_list, Option, Some, None, IfNone, IfSome}
 use Rattle.std.specs.List.{list_any}
 use Rattle.std.specs.Str.{bytes_eq}
@@ -12,7 +12,7 @@ use Rattle.rule_store.specs.Boxes.{bounding_box_of}
 use Rattle.rule_store.specs.Cells.{displacement_of, moved}
 use Rattle.rule_store.specs.Expansion.{expansion_of}
 use Rattle.rule_store.specs.Log.{block_stops, in_window}
-use Rattle.rule_store.specs.Nodes.{RuleNode, meets, nodes_in}
+use Rattle.rule_store.specs.Nodes.{RuleNode, is_opened, meets, nodes_in}
 use Rattle.track_types.specs.Boxes.{moved_box}
 use Rattle.log_cursor.specs.Pending.{PendingView}
 use Rattle.log_cursor.specs.Start.{IsWayOf, start_at}
@@ -61,6 +61,11 @@ is_rule_of rules rule node = bytes_eq (expansion_of rules rule) node.inside
 unfoldable pub touching_rule : RulesView → Start → List ℕ → ℤ → ℤ → Region → ℕ → Bool
 touching_rule rules start log from to region rule =
     list_any (is_rule_of rules rule) (filter (is_touching rules start from to region) (nodes_in rules log))
+
+-- a rule stands for the terminals of a node that holds an instant and has a box
+unfoldable pub holding_rule : RulesView → Start → List ℕ → ℤ → ℕ → Bool
+holding_rule rules start log instant rule =
+    list_any (is_rule_of rules rule) (filter (is_opened rules start.instant instant instant) (nodes_in rules log))
 
 -- the first stop of symbols in a window and a region
 abbrev pub hit_left : RulesView → ℤ → ℤ → Region → Start → List ℕ → Option Stop

@@ -1,13 +1,16 @@
 ghost use Rattle.std.specs.Prelude.{◌≡◌, ◌+◌, ◌≤◌, ◌<ℤ◌, ◌≤ℤ◌, ◌+ℤ◌, pos, ◌<◌, [], ◌∷◌, length};
-ghost use Rattle.step_count.specs.Reads.{ReadsWithin};
+ghost use Rattle.step_count.specs.Reads.{ofRule, ReadsWithin};
 ghost use Rattle.rule_store.specs.View.{symbols_in};
 ghost use Rattle.rule_store.specs.Expansion.{depth_in, depth_of};
 ghost use Rattle.rule_store.specs.Entry.{entry_of};
+ghost use Rattle.rule_store.specs.Flaws.{AreRules};
 ghost use Rattle.rule_store.specs.Log.{block_stops, log_of, stops_after};
-ghost use Rattle.rule_store.specs.Needs.{log_needs, places_of, rule_needs};
+ghost use Rattle.rule_store.specs.Needs.{places_of};
+ghost use Rattle.log_cursor.specs.Needs.{search_needs, RulesWithin};
 ghost use Rattle.log_cursor.specs.Start.{IsPlaced, IsWayOf};
 ghost use Rattle.log_cursor.specs.Seek.{cell_among};
 ghost use Rattle.log_cursor.specs.Cost.{seek_reads};
+ghost use Rattle.log_cursor.specs.Touching.{holding_rule};
 
 use crate::start::Start;
 use rule_store::{Entry, LogView, RuleStore};
@@ -29,7 +32,8 @@ pub fn seek<L: Reads>(
     steps: &mut Steps<L>,
 ) -> Option<Cell>
     requires placed { IsPlaced view.rules.now start (log_of view) }
-    requires may { ReadsWithin (log_needs (places_of view)) L.may }
+    requires may { ReadsWithin (search_needs (places_of view) (holding_rule view.rules.now start
+        (log_of view) instant)) L.may }
     ensures value { result ≡ cell_among (block_stops view.entry.rules.now start.instant start.cell
         (log_of view.entry)) instant }
     ensures cost { steps.new ≤ steps.old
@@ -54,7 +58,7 @@ pub fn seek<L: Reads>(
         }
         at = next;
     }
-    None
+    None // beyond the log
 }
 
 // The cell at an instant of a symbol that begins after a start.
@@ -65,12 +69,14 @@ fn cell_within<L: Reads>(
     instant: i64,
     steps: &mut Steps<L>,
 ) -> Option<Cell>
+    requires rules { AreRules rules.now }
     requires known { entry.symbol < symbols_in rules.now }
     requires entry { entry ≡ entry_of rules.now entry.symbol }
     requires way { IsWayOf rules.now start (entry.symbol ∷ []) }
     requires after { start.instant <ℤ instant }
     requires within { instant ≤ℤ (start.instant +ℤ pos entry.duration) }
-    requires may { ReadsWithin rule_needs L.may }
+    requires may { RulesWithin (holding_rule rules.now start (entry.symbol ∷ []) instant)
+        (λ rule. L.may (ofRule rule)) }
     ensures value { result ≡ cell_among (stops_after rules.now start.instant start.cell
         (entry.symbol ∷ [])) instant }
     ensures cost { steps.new ≤ steps.old + depth_of rules.now entry.symbol }

@@ -2,7 +2,7 @@ use Rattle.std.proofs.Common.{◌≡◌, ◌≤ℤ◌, ◌<ℤ◌, sym, ◌∙�
 use Rattle.std.proofs.lemmas.Bool.{leb-false, leb-true}
 use Rattle.std.proofs.lemmas.Int.{ints}
 use Rattle.log_cursor.proofs.StopLemmas.{word}
-use Rattle.log_cursor.proofs.SeekLemmas.{IsOpened, inside-absent, inside-found, inside-left, inside-left_smaller, inside-middle, inside-right, inside-right_smaller, inside-start}
+use Rattle.log_cursor.proofs.SeekLemmas.{IsOpened, inside-absent, inside-found, inside-left, inside-left_smaller, inside-middle, inside-opens, inside-right, inside-right_smaller, inside-start}
 use Rattle.log_cursor.proofs.WalkLemmas.{none_unless}
 use Rattle.log_cursor.proofs.seeking.cell_within.Goals as goal
 use Rattle.log_cursor.proofs.seeking.cell_within.Goals.{After-parts}
@@ -16,6 +16,13 @@ returns-then-not-is_rule-clause-value g c =
     let kept : word c.args.instant ≡ c.args.instant = omega (arith, ints) in
     rw kept at (inside-found c.loop-inner.invariant c.after.result c.after.ensures
     (leb-false _ _ (sym c.is_rule.ensures ∙ c.if-not-is_rule.true)) (sym c.is_some.ensures ∙ c.loop-inner-test.true))
+
+pub parts-requires-clause-may : goal.parts-requires-clause-may
+parts-requires-clause-may g c =
+    let kept : word c.args.instant ≡ c.args.instant = omega (arith, ints) in
+    let rule = leb-true _ _ (sym c.is_rule.ensures ∙ c.if-not-is_rule.false) in
+    let own = inside-opens c.loop-inner.invariant c.requires.rules rule (sym c.is_some.ensures ∙ c.loop-inner-test.true) in
+    c.requires.may c.loop-inner.inner.symbol (rw kept at own)
 
 -- the rule whose parts were read
 opened : (g : Over) (c : After-parts g) → IsOpened c.args.rules.now c.args.entry.symbol c.args.start (word c.args.instant)

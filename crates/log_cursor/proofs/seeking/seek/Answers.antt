@@ -1,17 +1,17 @@
-use Rattle.std.proofs.lemmas.Grind.{common_steps}
-use Rattle.std.proofs.Common.{◌≡◌, [], ◌∷◌, ◌<◌, ◌≤ℤ◌, ◌<ℤ◌, length, subst, sym, ap, ◌∙◌, arith, rules}
+use Rattle.std.proofs.Common.{◌≡◌, [], ◌∷◌, ◌+◌, ◌<◌, ◌≤ℤ◌, ◌<ℤ◌, IsTrue, length, subst, sym, ap, ◌∙◌, arith, rules}
 use Rattle.std.proofs.lemmas.Int.{ints}
 use Rattle.rule_store.specs.Flaws.{AreRules}
 use Rattle.rule_store.specs.View.{RulesView}
 use Rattle.rule_store.specs.Expansion.{depth_of}
 use Rattle.rule_store.specs.Log.{log_of, stops_after}
-use Rattle.rule_store.specs.Needs.{places_of}
-use Rattle.rule_store.proofs.NeedsLemmas.{within-rules}
+use Rattle.step_count.specs.Reads.{ofRule, ofSymbol}
 use Rattle.log_cursor.specs.Seek.{cell_among}
+use Rattle.log_cursor.specs.Touching.{holding_rule}
 use Rattle.log_cursor.specs.declared.start.Start.{Start}
+use Rattle.log_cursor.proofs.NeedsLemmas.{symbol-among}
 use Rattle.log_cursor.proofs.StopLemmas.{word}
 use Rattle.log_cursor.proofs.RuleLemmas.{depth_of-deepest}
-use Rattle.log_cursor.proofs.SeekLemmas.{IsReading, cell_among-anchor, cell_among-early, seeking-entry, seeking-first, seeking-found, seeking-known, seeking-last, seeking-next, seeking-start, seeking-way}
+use Rattle.log_cursor.proofs.SeekLemmas.{IsReading, cell_among-anchor, cell_among-early, seeking-entry, seeking-first, seeking-found, seeking-known, seeking-last, seeking-next, seeking-opens, seeking-start, seeking-way}
 use Rattle.log_cursor.proofs.WayLemmas.{IsWayOf-placed, length-log_of}
 use Rattle.log_cursor.proofs.seeking.seek.Given.{Over}
 use Rattle.log_cursor.proofs.seeking.seek.Goals as goal
@@ -52,13 +52,17 @@ pub cell_within-requires : goal.cell_within-requires
 cell_within-requires g c =
     let its = reading g (goal.at.cell_within-requires g c).After-entry-entry in
     let leads = ap (λ (s : Start). s.instant) c.after-next.ensures in
+    let kept : word c.args.instant ≡ c.args.instant = omega (arith, ints) in
+    let log = log_of c.args.view in
     rw c.rules-rules.ensures (record {
+      rules = subst AreRules c.rules-rules.ensures c.sizes.ensures.sound;
       known = seeking-known its;
       entry = seeking-entry its;
       way = seeking-way its;
       after = c.loop-i.invariant.after;
       within = omega (arith, ints, leads, c.if-instant-next.true);
-      may = within-rules g.L.Reads.may (places_of c.args.view) c.requires.may;
+      may = λ rule holds. c.requires.may (ofRule rule) (subst (λ z. IsTrue (holding_rule c.args.view.rules.now c.args.start log z rule))
+          kept (seeking-opens its rule holds));
     })
 
 pub returns-then-instant-next-clause-value : goal.returns-then-instant-next-clause-value
@@ -113,7 +117,9 @@ pub entry-entry-requires-clause-within : goal.entry-entry-requires-clause-within
 entry-entry-requires-clause-within g c = search rules
 
 pub entry-entry-requires-clause-may : goal.entry-entry-requires-clause-may
-entry-entry-requires-clause-may g c = grind (arith, common_steps)
+entry-entry-requires-clause-may g c =
+    c.requires.may (ofSymbol (c.args.view.from + c.loop-i.i))
+    (symbol-among c.args.view c.loop-i.i (omega (arith, c.len-i-end.ensures, c.loop-i-test.true)))
 
 pub returns-then-instant-next-clause-early : goal.returns-then-instant-next-clause-early
 returns-then-instant-next-clause-early g c = search rules
