@@ -4,6 +4,8 @@ pub mod ChartLemmas
 pub mod InstantLemmas
 pub mod TableLemmas
 pub mod BetweenLemmas
+-- Which reads find a cell.
+pub mod NeedsLemmas
 -- The periods, the blocks in them and their stops.
 pub mod MetLemmas
 pub mod BlockLemmas

@@ -1,3 +1,4 @@
 -- In reading order.
 pub mod Met
 pub mod Between
+pub mod Needs

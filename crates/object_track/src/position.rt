@@ -1,12 +1,11 @@
 ghost use Rattle.std.specs.Prelude.{◌≡◌, ◌<◌, ◌≤◌, ◌+◌, length, IsTrue, Some};
 ghost use Rattle.step_count.specs.Reads.{ofPeriod, ReadsWithin};
 ghost use Rattle.track_types.specs.Frame.{periods_of};
-ghost use Rattle.rule_store.specs.Needs.{log_needs};
 ghost use Rattle.log_cursor.specs.Seek.{cell_among};
 ghost use Rattle.snapshots.specs.IndexCost.{position_cost_in};
-ghost use Rattle.snapshots.specs.Needs.{block_places};
 ghost use Rattle.snapshots.specs.Parts.{snapshot_in, stops_in};
 ghost use Rattle.snapshots.specs.View.{block_of};
+ghost use Rattle.object_track.specs.Needs.{seek_needs};
 
 use crate::placing::Placed;
 use log_cursor::seek;
@@ -27,8 +26,8 @@ pub fn cell_in<L: Reads>(
     requires place { place < length stores.now.objects }
     requires period { period < periods_of stores.now.frame }
     requires may { IsTrue (L.may (ofPeriod period)) }
-    requires log { ReadsWithin (log_needs (block_places (block_of (snapshot_in stores.now period) place)))
-        L.may }
+    requires log { ReadsWithin (seek_needs stores.now period instant
+        (block_of (snapshot_in stores.now period) place)) L.may }
     ensures value { result ≡ cell_among (stops_in stores.now place period) instant }
     ensures cost { steps.new
         ≤ steps.old + position_cost_in stores.now (Some place) (Some period) }

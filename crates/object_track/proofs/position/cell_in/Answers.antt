@@ -1,11 +1,12 @@
-use Rattle.std.proofs.Common.{◌≡◌, ℕ, ◌∙◌, w64, to_z, of_z, arith, ap, subst, sym}
+use Rattle.std.proofs.Common.{◌≡◌, ◌∙◌, IsTrue, Option, w64, to_z, of_z, arith, ap, subst, sym}
 use Rattle.std.proofs.lemmas.Int.{ints}
-use Rattle.step_count.specs.Reads.{ReadsWithin}
 use Rattle.rule_store.specs.Log.{log_of}
-use Rattle.rule_store.specs.Needs.{log_needs}
+use Rattle.rule_store.specs.Needs.{places_of}
 use Rattle.log_cursor.specs.Seek.{cell_among}
-use Rattle.snapshots.specs.Needs.{block_places}
 use Rattle.snapshots.specs.Parts.{stops_in}
+use Rattle.snapshots.specs.declared.anchored.Anchored.{Anchored}
+use Rattle.object_track.specs.Needs.{seek_needs}
+use Rattle.object_track.proofs.NeedsLemmas.{seek_needs-found}
 use Rattle.object_track.proofs.PositionLemmas.{cell_among-absent, cell_among-present, position_cost_in-present}
 use Rattle.object_track.proofs.position.cell_in.Goals as goal
 
@@ -16,8 +17,15 @@ returns-in_err-block-clause-value g c =
 
 pub seek-requires-clause-may : goal.seek-requires-clause-may
 seek-requires-clause-may g c =
-    let here = c.new-placed.ensures.places ∙ ap block_places c.in_ok-block.ensures.value in
-    subst (λ (places : ℕ × ℕ). ReadsWithin (log_needs places) g.L.Reads.may) (sym here) c.requires.log
+    let parts = c.args.stores.now in
+    let placed = c.new-placed.ensures in
+    let log = c.new-placed.result.log in
+    let same : to_z w64 (of_z w64 c.args.instant) ≡ c.args.instant = omega (arith, ints) in
+    let found = seek_needs-found parts c.args.period c.args.instant _ same c.in_ok-block.block log.rules.now (log_of log)
+    c.new-placed.result.start placed.rules placed.log placed.start (places_of log) placed.places in
+    λ read needed. c.requires.log read
+    (subst (λ (block : Option Anchored). IsTrue (seek_needs parts c.args.period c.args.instant block read))
+    c.in_ok-block.ensures.value (found read needed))
 
 pub returns-clause-value : goal.returns-clause-value
 returns-clause-value g c =

@@ -1,0 +1,36 @@
+-- Which reads of an index it needs to find a cell at an instant: of rules only those that hold the instant.
+use Rattle.std.specs.Prelude.{ℕ, ℤ, Bool, false, Option, None, Some}
+use Rattle.step_count.specs.Reads.{Read, ofRule}
+use Rattle.track_types.specs.Frame.{period_in}
+use Rattle.track_types.specs.declared.parts.Parts.{Parts}
+use Rattle.log_cursor.specs.Needs.{search_needs}
+use Rattle.log_cursor.specs.Start.{start_at}
+use Rattle.log_cursor.specs.Touching.{holding_rule}
+use Rattle.snapshots.specs.Needs.{block_places, object_needs_at}
+use Rattle.snapshots.specs.Parts.{anchored_at, index_in, log_in, rules_in, snapshot_in}
+use Rattle.snapshots.specs.View.{block_of}
+use Rattle.snapshots.specs.declared.anchored.Anchored.{Anchored}
+
+-- a rule holds an instant in the log of a block of a period, if there is a block
+abbrev pub seek_rule : Parts → ℕ → ℤ → Option Anchored → ℕ → Bool
+seek_rule parts number instant None rule = false
+seek_rule parts number instant (Some block) rule = holding_rule (rules_in parts)
+    (start_at (anchored_at parts.frame number block) block.cell) (log_in parts block) instant rule
+
+-- the reads of a block's log by which the cell at an instant is sought
+abbrev pub seek_needs : Parts → ℕ → ℤ → Option Anchored → Read → Bool
+seek_needs parts number instant block = search_needs (block_places block) (seek_rule parts number instant block)
+
+-- a rule holds an instant in the log of an object's block of a period, by the places of both
+abbrev pub position_rule : Parts → Option ℕ → Option ℕ → ℤ → ℕ → Bool
+position_rule parts None number instant rule = false
+position_rule parts (Some index) None instant rule = false
+position_rule parts (Some index) (Some number) instant rule =
+    seek_rule parts number instant (block_of (snapshot_in parts number) index) rule
+
+-- the reads of where an object is at an instant: of the period of the instant, of the symbols of the object's log there, and
+-- of the rules that hold the instant in it
+abbrev pub position_needs : Parts → ℕ → ℤ → Read → Bool
+position_needs parts object instant (ofRule rule) =
+    position_rule parts (index_in parts.objects object) (period_in parts.frame instant) instant rule
+position_needs parts object instant other = object_needs_at parts object instant other
