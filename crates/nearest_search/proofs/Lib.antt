@@ -7,6 +7,7 @@ mod OnceLemmas
 mod ElementLemmas
 mod OpenedLemmas
 -- The search.
+mod NeedsLemmas
 mod SeekingLemmas
 mod CostLemmas
 mod SearchLemmas

@@ -1,5 +1,6 @@
 -- In reading order.
 pub mod Cost
+pub mod Needs
 pub mod Kept
 pub mod Reach
 pub mod Waiting

@@ -2,10 +2,9 @@ ghost use Rattle.std.specs.Prelude.{◌≡◌, ◌+◌, ◌<◌, ◌≤◌, ℕ,
 ghost use Rattle.step_count.specs.Reads.{ofPeriod, ReadsWithin};
 ghost use Rattle.track_types.specs.ByFilter.{nears_of};
 ghost use Rattle.track_types.specs.Near.{IsAsked, IsCellAsked};
-ghost use Rattle.rule_store.specs.Needs.{log_needs};
-ghost use Rattle.snapshots.specs.Needs.{log_places, needs_at};
-ghost use Rattle.snapshots.specs.Parts.{chart_in, snapshot_in};
+ghost use Rattle.snapshots.specs.Parts.{chart_in};
 ghost use Rattle.nearest_search.specs.Cost.{nearest_cost, period_near_cost};
+ghost use Rattle.nearest_search.specs.Needs.{nearest_needs, period_near_needs};
 ghost use Rattle.nearest_search.specs.Seeking.{IsSearch};
 
 use crate::closest::Closest;
@@ -33,7 +32,7 @@ pub fn nearest<L: Reads>(
 ) -> Result<Vec<Near>, Memory>
     requires instant { IsAsked instant }
     requires cell { IsCellAsked cell }
-    requires may { ReadsWithin (needs_at stores.now instant) L.may }
+    requires may { ReadsWithin (nearest_needs stores.now instant) L.may }
     ensures ok { IfOk result (λ found.
         found.items ≡ nears_of (chart_in stores.now).rows count instant cell) }
     ensures cost { steps.new ≤ steps.old + nearest_cost stores.now count instant cell }
@@ -69,8 +68,8 @@ impl<'a> Sought<'a> {
         requires search { IsSearch self.now }
         requires some { 0 < count }
         requires may { IsTrue (L.may (ofPeriod self.now.period)) }
-        requires logs { ReadsWithin (log_needs (log_places (snapshot_in self.now.stores.now self.now.period)))
-            L.may }
+        requires logs { ReadsWithin (period_near_needs self.now.stores.now self.now.period
+            self.now.instant) L.may }
         ensures ok { IfOk result (λ found. found.items
             ≡ nears_of (chart_in self.now.stores.now).rows count self.now.instant self.now.reach.cell) }
         ensures cost { steps.new ≤ steps.old + period_near_cost self.now.stores.now count

@@ -9,12 +9,11 @@ ghost use Rattle.nearest_search.specs.Seeking.{quest_of, near_at, seek_reads_at,
 ghost use Rattle.track_types.specs.Near.{IsCellWithin};
 ghost use Rattle.log_cursor.specs.Seek.{cell_among};
 ghost use Rattle.snapshots.specs.IndexCost.{seek_cost};
-ghost use Rattle.rule_store.specs.Needs.{log_needs};
-ghost use Rattle.snapshots.specs.Needs.{log_places};
 ghost use Rattle.snapshots.specs.Parts.{snapshot_in, stops_of};
 ghost use Rattle.snapshots.specs.Sound.{IsBlock};
 ghost use Rattle.nearest_search.specs.Cost.{period_near_cost};
 ghost use Rattle.nearest_search.specs.Kept.{ClosestView};
+ghost use Rattle.nearest_search.specs.Needs.{period_near_needs};
 ghost use Rattle.nearest_search.specs.Seeking.{AreAdded, AreSeeking, OpensWaiting, IsPaid, IsQueued, IsSearch};
 ghost use Rattle.nearest_search.specs.declared.waiting.Waiting.TheVariants.{Node as AtNode, Place as AtPlace};
 
@@ -188,8 +187,8 @@ impl<'a> Sought<'a> {
         requires search { IsSearch self.now }
         requires place { place < length self.now.kept.now.tree.places.codes }
         requires may { IsTrue (L.may (ofPeriod self.now.period)) }
-        requires logs { ReadsWithin (log_needs (log_places (snapshot_in self.now.stores.now self.now.period)))
-            L.may }
+        requires logs { ReadsWithin (period_near_needs self.now.stores.now self.now.period
+            self.now.instant) L.may }
         ensures value { result ≡ near_at (quest_of self.now) place }
         ensures cost { steps.new ≤ steps.old + seek_reads_at (quest_of self.now) place }
     {
@@ -207,8 +206,8 @@ impl<'a> Sought<'a> {
     fn cell_of<L: Reads>(&self, block: &Anchored, steps: &mut Steps<L>) -> Option<Cell>
         requires search { IsSearch self.now }
         requires block { IsBlock (snapshot_in self.now.stores.now self.now.period) block.now }
-        requires logs { ReadsWithin (log_needs (log_places (snapshot_in self.now.stores.now self.now.period)))
-            L.may }
+        requires logs { ReadsWithin (period_near_needs self.now.stores.now self.now.period
+            self.now.instant) L.may }
         ensures value { result ≡ cell_among
             (stops_of self.now.stores.now self.now.period block.now) self.now.instant }
         ensures within { IfSome result (λ cell. IsCellWithin cell) }

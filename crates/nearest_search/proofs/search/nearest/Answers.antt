@@ -4,12 +4,13 @@ use Rattle.track_types.specs.Frame.{periods_of}
 use Rattle.track_types.specs.ByFilter.{nears_of}
 use Rattle.track_types.specs.Near.{IsCellAsked}
 use Rattle.track_types.specs.declared.cell.Cell.{Cell}
-use Rattle.snapshots.specs.Parts.{chart_in, period_in, snapshot_in}
+use Rattle.snapshots.specs.Parts.{chart_in, period_in}
 use Rattle.snapshots.specs.SoundParts.{IsValid}
 use Rattle.object_track.proofs.MetLemmas.{period_in-some}
-use Rattle.snapshots.specs.Needs.{is_found, is_of_logs, log_places}
-use Rattle.snapshots.proofs.NeedsLemmas.{is_found-same, may-log, may-period}
+use Rattle.step_count.specs.Reads.{ofPeriod}
+use Rattle.snapshots.proofs.NeedsLemmas.{is_found-same}
 use Rattle.nearest_search.specs.Cost.{nearest_cost, period_near_cost}
+use Rattle.nearest_search.proofs.NeedsLemmas.{may-near}
 use Rattle.nearest_search.proofs.OutsideLemmas.{cost-some, nears-blockless, nears-outside, nears-unasked}
 use Rattle.nearest_search.proofs.search.nearest.Given.{Over}
 use Rattle.nearest_search.proofs.search.nearest.Goals as goal
@@ -82,19 +83,16 @@ found-here g c =
 
 pub nearest-requires-clause-may : goal.nearest-requires-clause-may
 nearest-requires-clause-may g c =
-    let parts = c.args.stores.now in
-    let its = when g (goal.at.nearest-requires-clause-may g c).In-Some in
-    let found = period_in parts.frame c.args.instant in
-    may-period g.L.Reads.may parts.frame (is_found found) (is_of_logs parts) c.requires.may c.in-Some.period its.1
-    (is_found-same found c.in-Some.period (found-here g (goal.at.nearest-requires-clause-may g c).In-Some))
+    c.requires.may (ofPeriod c.in-Some.period)
+    (is_found-same (period_in c.args.stores.now.frame c.args.instant) c.in-Some.period
+    (found-here g (goal.at.nearest-requires-clause-may g c).In-Some))
 
 pub nearest-requires-clause-logs : goal.nearest-requires-clause-logs
 nearest-requires-clause-logs g c =
-    let parts = c.args.stores.now in
     let at = (goal.at.nearest-requires-clause-logs g c).In-Some in
-    let found = period_in parts.frame c.args.instant in
-    may-log g.L.Reads.may parts.frame (is_found found) (is_of_logs parts) c.requires.may c.in-Some.period (when g at).1
-    (is_found-same found c.in-Some.period (found-here g at)) (log_places (snapshot_in parts c.in-Some.period)) (λ place is. is)
+    let same : to_z w64 (of_z w64 c.args.instant) ≡ c.args.instant = omega (arith, ints) in
+    rw same (may-near g.L.Reads.may c.args.stores.now c.args.instant c.requires.may c.in-Some.period (when g at).1
+    (found-here g at))
 
 pub returns-clause-cost : goal.returns-clause-cost
 returns-clause-cost g c =

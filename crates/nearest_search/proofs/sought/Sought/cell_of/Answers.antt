@@ -2,10 +2,11 @@ use Rattle.std.proofs.Common.{◌≡◌, ◌∙◌, w64, to_z, of_z, arith, ap, 
 use Rattle.std.proofs.lemmas.Int.{ints}
 use Rattle.rule_store.specs.Log.{log_of}
 use Rattle.log_cursor.specs.Seek.{cell_among}
-use Rattle.snapshots.specs.Parts.{snapshot_in, stops_of}
+use Rattle.snapshots.specs.Parts.{stops_of}
 use Rattle.nearest_search.proofs.FoundLemmas.{cell-sought, cell-within, seek-paid}
 use Rattle.rule_store.specs.Needs.{places_of}
-use Rattle.snapshots.proofs.NeedsLemmas.{within-block}
+use Rattle.object_track.proofs.NeedsLemmas.{seek_needs-found}
+use Rattle.nearest_search.proofs.NeedsLemmas.{near-within}
 use Rattle.nearest_search.proofs.sought.Sought.cell_of.Goals as goal
 
 pub returns-clause-value : goal.returns-clause-value
@@ -37,6 +38,12 @@ returns-clause-cost g c =
 
 pub seek-requires-clause-may : goal.seek-requires-clause-may
 seek-requires-clause-may g c =
-    let self = c.args.self.now in
-    within-block g.L.Reads.may (snapshot_in self.stores.now self.period) c.args.block.now
-    (places_of c.new-placed.result.log) c.requires.block c.new-placed.ensures.places c.requires.logs
+    let sought = c.args.self.now in
+    let is = c.requires.search.is in
+    let placed = c.new-placed.ensures in
+    let log = c.new-placed.result.log in
+    let same : to_z w64 (of_z w64 sought.instant) ≡ sought.instant = omega (arith, ints) in
+    let found = seek_needs-found sought.stores.now sought.period sought.instant _ same c.args.block.now log.rules.now (log_of log)
+    c.new-placed.result.start placed.rules placed.log placed.start (places_of log) placed.places in
+    let near = near-within sought.stores.now is.valid sought.period is.within sought.instant c.args.block.now c.requires.block in
+    λ read needed. c.requires.logs read (near read (found read needed))
