@@ -1,4 +1,4 @@
--- Which reads of an index it needs to find a cell at an instant: of rules only those that hold the instant.
+-- Which reads of an index find a cell at an instant: of rules only those that hold the instant.
 use Rattle.std.specs.Prelude.{ℕ, ℤ, Bool, false, Option, None, Some}
 use Rattle.step_count.specs.Reads.{Read, ofRule}
 use Rattle.track_types.specs.Frame.{period_in}

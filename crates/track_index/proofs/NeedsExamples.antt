@@ -6,7 +6,7 @@ use Rattle.step_count.specs.Reads.{Read, ofPeriod, ofRule, ofSymbol}
 use Rattle.track_types.specs.declared.parts.Parts.{Parts}
 use Rattle.track_types.specs.declared.period_parts.PeriodParts.{PeriodParts}
 use Rattle.track_types.specs.declared.question.Question.{Question}
-use Rattle.track_types.specs.declared.question.Question.TheVariants.{Interval, Position, Path, Slice, Meet}
+use Rattle.track_types.specs.declared.question.Question.TheVariants.{Interval, Meet, Nearest, Path, Position, Slice}
 use Rattle.track_types.specs.declared.region.Region.TheVariants.{Disc, Rect}
 use Rattle.k2_tree.specs.Morton.{cell_of, morton_column, morton_row}
 use Rattle.k2_tree.specs.Tree.{codes_below, codes_in, where_set}
@@ -18,10 +18,11 @@ use Rattle.rule_store.specs.Boxes.{bounding_box_of, box_round}
 use Rattle.rule_store.specs.Cells.{cells_along, displacement_of}
 use Rattle.rule_store.specs.Expansion.{expansion_of}
 use Rattle.rule_store.specs.Nodes.{nodes_in, parsed}
-use Rattle.log_cursor.specs.Touching.{touching_rule}
+use Rattle.log_cursor.specs.Touching.{holding_rule, touching_rule}
 use Rattle.snapshots.specs.Parts.{start_in}
 use Rattle.snapshots.specs.View.{all_blocks}
 use Rattle.slice_search.specs.Needs.{period_rule}
+use Rattle.nearest_search.specs.Needs.{near_rule}
 use Rattle.track_index.specs.Cost.{needs_of}
 use Rattle.track_index.proofs.Examples.{corner, halves, repeated}
 
@@ -53,8 +54,8 @@ needed question = map (needs_of pair question)
     (ofPeriod 0 ∷ ofPeriod 1 ∷ ofRule 1 ∷ ofSymbol 0 ∷ ofSymbol 1 ∷ ofSymbol 2 ∷ ofSymbol 3 ∷ [])
 
 -- a position needs its object's log in the period of its instant
-position : needed (Position 9 (pos 2)) ≡ false ∷ true ∷ true ∷ false ∷ false ∷ false ∷ true ∷ []
-unfolding start_in rank_of ones_of
+position : needed (Position 9 (pos 2)) ≡ false ∷ true ∷ false ∷ false ∷ false ∷ false ∷ true ∷ []
+unfolding start_in holding_rule nodes_in parsed table_of_rules rank_of ones_of
 position = refl
 
 -- a slice needs all logs of that period
@@ -72,7 +73,8 @@ meeting : needed (Meet 7 9 (pos 0) (pos 1) 3) ≡ true ∷ false ∷ true ∷ tr
 unfolding start_in rank_of ones_of
 meeting = refl
 
--- Of a rule that moves an object from (0, 0) to (2, 0), and then from there to (4, 0), the questions need what touches their region.
+-- Of a rule that moves an object from (0, 0) to (2, 0), and then from there to (4, 0), the questions need what touches their region
+-- or holds their instant.
 rule : map (λ question. needs_of repeated question (ofRule 1)) (
     -- a slice that has no cell of its boxes does not
     Slice (pos 1) (Rect (pos 1) (pos 1) (pos 4) (pos 4))
@@ -82,9 +84,13 @@ rule : map (λ question. needs_of repeated question (ofRule 1)) (
     ∷ Slice (pos 1) (Rect (pos 2) (pos 0) (pos 4) (pos 0))
     -- so does an interval that comes to the later box
     ∷ Interval (pos 1) (pos 3) (Rect (pos 4) (pos 0) (pos 4) (pos 0))
-    -- and a position may read any rule
-    ∷ Position 1 (pos 1) ∷ []) ≡ false ∷ false ∷ true ∷ true ∷ true ∷ []
-unfolding start_in period_rule all_blocks touching_rule nodes_in parsed table_of_rules expansion_of bounding_box_of box_round cells_along
+    -- a position and the nearest do at an instant that it holds
+    ∷ Position 1 (pos 1) ∷ Nearest 1 (pos 3) (record { x = pos 9; y = pos 9 })
+    -- but not at the anchor, nor where there is no such object
+    ∷ Position 1 (pos 0) ∷ Nearest 1 (pos 0) (record { x = pos 0; y = pos 0 }) ∷ Position 2 (pos 1)
+    -- and a path may read any rule
+    ∷ Path 1 (pos 0) (pos 0) ∷ []) ≡ false ∷ false ∷ true ∷ true ∷ true ∷ true ∷ false ∷ false ∷ false ∷ true ∷ []
+unfolding start_in period_rule near_rule all_blocks touching_rule holding_rule nodes_in parsed table_of_rules expansion_of bounding_box_of box_round cells_along
     displacement_of move_of ring_moves ring_of_code side_moves where_set codes_below codes_in levels_with digits_in children_of_prefixes
     prefixes morton_row morton_column cell_of rank_of ones_of
 rule = refl

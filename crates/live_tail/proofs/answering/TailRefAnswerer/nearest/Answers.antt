@@ -1,16 +1,16 @@
 use Rattle.std.proofs.Common.{◌≡◌, ◌≤◌, ◌+◌, ℤ, List, Option, to_z, of_z, w64, ap, sym, subst, ◌∙◌, arith}
 use Rattle.std.specs.Prelude.{IfOk, IsTrue}
-use Rattle.snapshots.specs.Needs.{needs_at}
 use Rattle.std.proofs.lemmas.Int.{ints}
 use Rattle.track_types.specs.ByFilter.{nears_of}
 use Rattle.track_types.specs.Chart.{ChartView}
 use Rattle.track_types.specs.Table.{IsTable}
 use Rattle.track_types.specs.declared.cell.Cell.{Cell}
 use Rattle.track_types.specs.declared.parts.Parts.{Parts}
+use Rattle.track_types.specs.declared.question.Question.TheVariants.{Nearest}
 use Rattle.track_types.specs.declared.row.Row.{Row}
 use Rattle.snapshots.specs.Parts.{chart_in}
 use Rattle.snapshots.specs.SoundParts.{IsValid}
-use Rattle.track_index.specs.Cost.{cost_of}
+use Rattle.track_index.specs.Cost.{cost_of, needs_of}
 use Rattle.live_tail.specs.Cost.{cost_beside, nearest_cost_beside}
 use Rattle.live_tail.specs.Join.{joint_chart, rows_of_tail, rows_of_both}
 use Rattle.live_tail.proofs.FewLemmas.{rows_at-few}
@@ -29,8 +29,8 @@ nearest-requires-clause-may g c =
     let same : to_z w64 (of_z w64 c.args.instant) ≡ at = omega (arith, ints) in
     let its : c.view-view.result.index.now ≡ c.args.self.tailed.now.parts = c.view-view.ensures ∙ c.index-index.ensures in
     λ wanted read needed. c.requires.may read
-    (subst (λ (p : Parts). IsTrue (needs_at p at read)) its
-    (subst (λ z. IsTrue (needs_at c.view-view.result.index.now z read)) same needed))
+    (subst (λ (p : Parts). IsTrue (needs_of p (Nearest wanted at c.args.cell) read)) its
+    (subst (λ z. IsTrue (needs_of c.view-view.result.index.now (Nearest wanted z c.args.cell) read)) same needed))
 
 pub returns-clause-ok : goal.returns-clause-ok
 returns-clause-ok g c =

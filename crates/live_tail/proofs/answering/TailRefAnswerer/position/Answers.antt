@@ -7,12 +7,11 @@ use Rattle.track_types.specs.Table.{IsTable}
 use Rattle.track_types.specs.declared.parts.Parts.{Parts}
 use Rattle.track_types.specs.declared.question.Question.TheVariants.{Position}
 use Rattle.snapshots.specs.Parts.{chart_in}
-use Rattle.track_index.specs.Cost.{cost_of}
+use Rattle.track_index.specs.Cost.{cost_of, needs_of}
 use Rattle.live_tail.specs.Cost.{cost_beside}
 use Rattle.live_tail.specs.Join.{rows_of_tail}
 use Rattle.live_tail.proofs.JoinLemmas.{cell_at-joint_chart}
 use Rattle.std.specs.Prelude.{IsTrue}
-use Rattle.snapshots.specs.Needs.{object_needs_at}
 use Rattle.live_tail.proofs.answering.TailRefAnswerer.position.Goals as goal
 
 pub returns-in-Some-clause-value : goal.returns-in-Some-clause-value
@@ -61,5 +60,5 @@ position-requires-clause-may g c =
     let same : to_z w64 (of_z w64 c.args.instant) ≡ c.args.instant = omega (arith, ints) in
     let its : c.view-index.result.index.now ≡ c.args.self.tailed.now.parts = c.view-index.ensures ∙ c.index.ensures in
     λ read needed. c.requires.may read
-    (subst (λ (p : Parts). IsTrue (object_needs_at p object c.args.instant read)) its
-    (subst (λ z. IsTrue (object_needs_at c.view-index.result.index.now object z read)) same needed))
+    (subst (λ (p : Parts). IsTrue (needs_of p (Position object c.args.instant) read)) its
+    (subst (λ z. IsTrue (needs_of c.view-index.result.index.now (Position object z) read)) same needed))

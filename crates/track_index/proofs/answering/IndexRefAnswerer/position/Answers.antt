@@ -1,17 +1,16 @@
-use Rattle.std.proofs.Common.{◌≡◌, ◌≤◌, ◌+◌, ℕ, ℤ, Option, None, Some, IsTrue, w64}
+use Rattle.std.proofs.Common.{◌≡◌, ◌≤◌, ◌+◌, ℕ, ℤ, Option, None, Some, w64}
 use Rattle.std.proofs.Common.{to_z, of_z, refl, arith, ap, sym, subst, ◌∙◌}
 use Rattle.std.proofs.lemmas.Int.{ints}
-use Rattle.step_count.specs.Reads.{ofPeriod}
+use Rattle.step_count.specs.Reads.{ReadsWithin, ofPeriod}
 use Rattle.track_types.specs.declared.parts.Parts.{Parts}
 use Rattle.log_cursor.specs.Seek.{cell_among}
 use Rattle.snapshots.specs.IndexCost.{position_cost, position_cost_in}
 use Rattle.snapshots.specs.Parts.{index_in, period_in, snapshot_in, stops_in}
 use Rattle.snapshots.specs.SoundParts.{IsValid}
-use Rattle.rule_store.specs.Needs.{is_among}
-use Rattle.snapshots.specs.Needs.{block_places, is_found, is_of_block}
 use Rattle.snapshots.specs.View.{block_of}
-use Rattle.snapshots.specs.declared.anchored.Anchored.{Anchored}
-use Rattle.snapshots.proofs.NeedsLemmas.{is_found-same, may-log}
+use Rattle.snapshots.proofs.NeedsLemmas.{is_found-same}
+use Rattle.object_track.specs.Needs.{seek_needs}
+use Rattle.object_track.proofs.NeedsLemmas.{may-position}
 use Rattle.track_index.specs.Cost.{cost_of}
 use Rattle.object_track.proofs.ChartLemmas.{cell_at-known, cell_at-outside, cell_at-unknown, index_in-some}
 use Rattle.object_track.proofs.MetLemmas.{period_in-some}
@@ -75,19 +74,18 @@ cell_in-requires-clause-may g c =
 pub cell_in-requires-clause-log : goal.cell_in-requires-clause-log
 cell_in-requires-clause-log g c =
     let parts : Parts = c.args.self.index.now in
-    let stores : Parts = c.stores-stores.result.now in
     let at = goal.at.cell_in-requires-clause-log g c in
-    let when = when g at.In_ok-period in
-    let found = period_in parts.frame c.args.instant in
-    let block : Parts → Option Anchored = λ p. block_of (snapshot_in p c.in_ok-period.period) c.in_ok-place.place in
-    let places : ℕ × ℕ = block_places (block stores) in
-    let same : places ≡ block_places (block parts) = ap (λ p. block_places (block p)) c.stores-stores.ensures.value in
-    may-log g.L.Reads.may parts.frame (is_found found) (is_of_block parts (index_in parts.objects c.args.object)) c.requires.may
-    c.in_ok-period.period
-    (period_in-some parts.frame c.stores-stores.ensures.valid.shaped.header c.args.instant c.in_ok-period.period (sym when)).0
-    (is_found-same found c.in_ok-period.period (sym when)) places
-    (λ place is. subst (λ (o : Option ℕ). IsTrue (is_of_block parts o c.in_ok-period.period place)) (known g at.In_ok-place)
-    (subst (λ (ps : ℕ × ℕ). IsTrue (is_among ps place)) same is))
+    let place = c.in_ok-place.place in
+    let number = c.in_ok-period.period in
+    let here : ℤ = to_z w64 (of_z w64 c.args.instant) in
+    let same : here ≡ c.args.instant = omega (arith, ints) in
+    let when : period_in parts.frame c.args.instant ≡ Some number = sym (when g at.In_ok-period) in
+    let below = (period_in-some parts.frame c.stores-stores.ensures.valid.shaped.header c.args.instant number when).0 in
+    subst (λ (p : Parts). ReadsWithin (seek_needs p number here (block_of (snapshot_in p number) place)) g.L.Reads.may)
+    (sym c.stores-stores.ensures.value)
+    (subst (λ z. ReadsWithin (seek_needs parts number z (block_of (snapshot_in parts number) place)) g.L.Reads.may) (sym same)
+    (may-position g.L.Reads.may parts c.args.object c.args.instant c.requires.may place number below
+    (sym (known g at.In_ok-place)) when))
 
 pub returns-clause-value : goal.returns-clause-value
 returns-clause-value g c =
