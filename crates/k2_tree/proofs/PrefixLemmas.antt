@@ -22,7 +22,7 @@ by_test x k = elim (cases_Bool (x == k)) [
   | inr e ↦ inr (λ same. grind (arith, nat_tests), e)
 ]
 
--- numbers one after another that are children of one square lead to it
+-- the number of a child leads to that of its square
 pub div-group : (size q x : ℕ) → size * q ≤ x → x < size * q + size → x / size ≡ q
 div-group size q x low high =
     let d : ℕ = x - size * q in
