@@ -1,4 +1,4 @@
--- Which reads a search of a region makes where others may be made.
+-- Which reads a search makes where others may be made.
 use Rattle.std.proofs.Common.{◌≡◌, ℕ, ◌+◌, ◌<◌, Bool, IsTrue, length, refl, subst}
 use Rattle.step_count.specs.Reads.{ReadsWithin, ofPeriod, ofRule, ofSymbol}
 use Rattle.rule_store.specs.Log.{log_of}
