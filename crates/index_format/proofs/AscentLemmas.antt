@@ -80,14 +80,18 @@ module _ (height : ℕ) (alphabet : List ℕ) where
   values-near ascends = code_flaw-none height alphabet (λ k some.
       leads_out-below height (get_or alphabet k 0) (ascends-within (square (2 * reach_limit height + 1)) 0 alphabet ascends k some).1)
 
--- the greatest value of the alphabet is read as a number
-pub small_values : (height : ℕ) → height ≤ MAX_HEIGHT → square (2 * reach_limit height + 1) + 2 ≤ 2 ^ 56
-small_values height low =
+-- codes of movements within a grid, and values of them, are well below 2^50
+pub area-small : (height : ℕ) → height ≤ MAX_HEIGHT → square (2 * reach_limit height + 1) + 2 < 2 ^ 50
+area-small height low =
     let most : 2 ^ height ≤ 2 ^ 24 = pow-le-pow_right {n = 2} (lit< tt) {i = height} {j = 24} low in
     let side = 2 * reach_limit height + 1 in
     let few : side ≤ 33554431 = omega (arith, most) in
     let area : side * side ≤ 33554431 * side = mul-le-mul_right side few in
     omega (arith, area, few)
+
+-- the greatest value of the alphabet is read as a number
+pub small_values : (height : ℕ) → height ≤ MAX_HEIGHT → square (2 * reach_limit height + 1) + 2 ≤ 2 ^ 56
+small_values height low = omega (arith, area-small height low)
 
 -- values that were read: so many, without a flaw
 pub values-read : (height count : ℕ) (values : List ℕ) (bits rest : List Bool) → height ≤ MAX_HEIGHT

@@ -15,9 +15,9 @@ use Rattle.index_format.specs.OutlineFile.{frame_rules, outline_bits, outline_by
 use Rattle.index_format.specs.OutlineLists.{gap_bits}
 use Rattle.index_format.specs.OutlineRules.{rules_bits}
 use Rattle.index_format.specs.IsOutline.{AreInOrder, IsOutline}
-use Rattle.index_format.proofs.AscentLemmas.{objects-ascend, values-ascend}
+use Rattle.index_format.proofs.AscentLemmas.{area-small, objects-ascend, values-ascend}
 use Rattle.index_format.proofs.BitLemmas.{length-bit_bytes}
-use Rattle.index_format.proofs.BlockSizeLemmas.{area-small, blocks-few, blocks_bits-short}
+use Rattle.index_format.proofs.BlockSizeLemmas.{blocks-few, blocks_bits-short}
 use Rattle.index_format.proofs.LayerBits.{rules_bits-layers}
 use Rattle.index_format.proofs.LengthLaws.{header_length, length-header_bytes}
 use Rattle.index_format.proofs.SizeLemmas.{gaps_bits-short, layers_bits-short, number_bits-short}

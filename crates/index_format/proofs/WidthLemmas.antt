@@ -5,6 +5,7 @@ use Rattle.std.specs.List.{position_or_len, range_with_len}
 use Rattle.std.proofs.lemmas.Bool.Decides.{nat_tests}
 use Rattle.std.proofs.lemmas.List.FromFn.{get_or-range_with_len, length-range_with_len}
 use Rattle.std.proofs.lemmas.List.Sums.{position_or_len_is, prefix_len-le-length}
+use Rattle.list_laws.proofs.NumberLemmas.{least_power}
 use Rattle.track_types.specs.PartsForm.{width_for}
 
 -- a symbol takes few bits, however many there are
@@ -16,6 +17,11 @@ width_for-narrow symbols =
       prefix_len-le-length (λ width. not (nat_le symbols (2 ^ width))) (range_with_len 1 26),
       length-range_with_len 1 26,
     )
+
+-- as many symbols as an index may have take at most 26 bits, which are enough to tell them apart
+pub width_for-few : (symbols : ℕ) → symbols ≤ 2 ^ 26 → (width_for symbols ≤ 26) × (symbols ≤ 2 ^ width_for symbols)
+unfolding width_for
+width_for-few symbols few = least_power 26 symbols (omega arith) few
 
 -- the first width that is enough, where no lower one is
 pub width_for-first : (symbols width : ℕ) → 1 ≤ width → width ≤ 26
