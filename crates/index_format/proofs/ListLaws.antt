@@ -13,25 +13,32 @@ use Rattle.track_types.specs.declared.flaw.Section.TheVariants.{Rules}
 use Rattle.track_types.specs.declared.flaw.Kind.TheVariants.{Short}
 use Rattle.index_format.specs.Spelling.{short_bytes, rule_bytes}
 use Rattle.index_format.specs.Fields.{Taken, flaw_at, number_at, short_at, rises, rising_at, rule_at}
+use Rattle.index_format.proofs.BitLemmas.{IsBytes}
 use Rattle.index_format.proofs.Laws.{Takes, Takes-then, then_ok, test_ok, IsWide, wide32, number_at-takes, number_at-again, IsListed}
+
+-- items of which each has a property, whatever stands before it
+pub each_listed : {A : Type 0} (next : List A → List ℕ → Taken A) (spell : A → List ℕ) (P : A → Type 0)
+    → ((seen : List A) (bytes : List ℕ) → IsBytes bytes → IfOk (next seen bytes) (λ item. Takes bytes (spell item.0) item.1 × P item.0))
+    → ((seen : List A) (item : A) (rest : List ℕ) → P item → next seen (spell item ++ rest) ≡ Ok (item, rest)) → IsListed next spell (All P)
+each_listed {A} next spell P takes again = record {
+  none = All-nil P;
+  front = λ xs ys all. All-front P xs ys all;
+  takes = λ seen bytes all fits. more seen bytes all (next seen bytes) (takes seen bytes fits);
+  again = λ seen item rest all. again seen item rest (All-last P seen item all);
+}
+  where
+    more : (seen : List A) (bytes : List ℕ) → All P seen → (read : Taken A) → IfOk read (λ item. Takes bytes (spell item.0) item.1 × P item.0)
+        → IfOk read (λ item. Takes bytes (spell item.0) item.1 × All P (seen ++ item.0 ∷ []))
+    more seen bytes all (Ok item) taken = (taken.0, All-snoc P seen item.0 all taken.1)
+    more seen bytes all (Err flaw) taken = tt
 
 -- numbers of four bytes
 pub shorts_listed : (section : Section) (period : ℕ) → IsListed (short_at section period) short_bytes AreShort
 unfolding short_at
-shorts_listed section period = record {
-  none = All-nil (λ n. n < 2 ^ 32);
-  front = λ xs ys all. All-front (λ n. n < 2 ^ 32) xs ys all;
-  takes = λ seen bytes all fits. number_more seen bytes all (number_at w32 (flaw_at section period (length seen) Short) bytes)
-      (number_at-takes wide32 (flaw_at section period (length seen) Short) bytes fits);
-  again = λ seen n rest all. number_at-again wide32 (flaw_at section period (length seen) Short) n rest
-      (All-last (λ n. n < 2 ^ 32) seen n all);
-}
-  where
-    number_more : (seen bytes : List ℕ) → AreShort seen → (read : Taken ℕ)
-        → IfOk read (λ n. Takes bytes (short_bytes n.0) n.1 × (n.0 < 2 ^ 32))
-        → IfOk read (λ n. Takes bytes (short_bytes n.0) n.1 × AreShort (seen ++ n.0 ∷ []))
-    number_more seen bytes all (Ok n) taken = (taken.0, All-snoc (λ n. n < 2 ^ 32) seen n.0 all taken.1)
-    number_more seen bytes all (Err flaw) taken = tt
+shorts_listed section period =
+    each_listed (short_at section period) short_bytes (λ n. n < 2 ^ 32)
+    (λ seen bytes fits. number_at-takes wide32 (flaw_at section period (length seen) Short) bytes fits)
+    (λ seen n rest small. number_at-again wide32 (flaw_at section period (length seen) Short) n rest small)
 
 -- a number rises if and only if it is greater than the last
 rises-above : (seen : List ℕ) (n : ℕ) → rises seen n ≡ true → 0 < length seen → slice_index seen (length seen - 1) < n
@@ -74,18 +81,15 @@ IsShortPair pair = (pair.0 < 2 ^ 32) × (pair.1 < 2 ^ 32)
 -- rules
 pub rules_listed : IsListed rule_at rule_bytes AreShortPairs
 unfolding rule_at rule_bytes
-rules_listed = record {
-  none = All-nil IsShortPair;
-  front = λ xs ys all. All-front IsShortPair xs ys all;
-  takes = λ seen bytes all fits.
-      let missing = flaw_at Rules 0 (length seen) Short in
-      then_ok _ _ (number_at w32 missing bytes) (number_at-takes wide32 missing bytes fits) (λ left one.
-      then_ok _ _ (number_at w32 missing left.1) (number_at-takes wide32 missing left.1 one.0.fits) (λ right two.
-      (Takes-then one.0 two.0, All-snoc IsShortPair seen (left.0, right.0) all (one.1, two.1))));
-  again = λ seen rule rest all.
-      let missing = flaw_at Rules 0 (length seen) Short in
-      let pair = All-last IsShortPair seen rule all in
-      let first = number_at-again wide32 missing rule.0 (short_bytes rule.1 ++ rest) pair.0 in
-      let second = number_at-again wide32 missing rule.1 rest pair.1 in
-      ap (rule_at seen) (append_assoc (short_bytes rule.0) (short_bytes rule.1) rest) ∙ rw (first, second) refl;
-}
+rules_listed =
+    each_listed rule_at rule_bytes IsShortPair
+    (λ seen bytes fits.
+    let missing = flaw_at Rules 0 (length seen) Short in
+    then_ok _ _ (number_at w32 missing bytes) (number_at-takes wide32 missing bytes fits) (λ left one.
+    then_ok _ _ (number_at w32 missing left.1) (number_at-takes wide32 missing left.1 one.0.fits) (λ right two.
+    (Takes-then one.0 two.0, (one.1, two.1)))))
+    (λ seen rule rest pair.
+    let missing = flaw_at Rules 0 (length seen) Short in
+    let first = number_at-again wide32 missing rule.0 (short_bytes rule.1 ++ rest) pair.0 in
+    let second = number_at-again wide32 missing rule.1 rest pair.1 in
+    ap (rule_at seen) (append_assoc (short_bytes rule.0) (short_bytes rule.1) rest) ∙ rw (first, second) refl)

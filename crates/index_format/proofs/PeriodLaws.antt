@@ -1,11 +1,9 @@
 -- The sections of a period: what is read is spelled so and shaped, and what is shaped is read again.
-use Rattle.std.proofs.Common.{◌≡◌, ℕ, ◌≤◌, true, List, [], ◌∷◌, ◌++◌, length, All, Ok, Err, refl, ap, ◌∙◌, append_assoc, arith}
+use Rattle.std.proofs.Common.{◌≡◌, ℕ, ◌≤◌, true, List, [], ◌++◌, length, All, Ok, refl, ap, ◌∙◌, append_assoc, arith}
 use Rattle.std.specs.Prelude.{IfOk, nat_le}
 use Rattle.std.specs.List.{flat_map}
 use Rattle.std.specs.Int.{w32}
 use Rattle.std.proofs.lemmas.Bool.Decides.{nat_tests}
-use Rattle.std.proofs.lemmas.List.Elements.{All-nil}
-use Rattle.list_laws.proofs.FrontLemmas.{All-front, All-last, All-snoc}
 use Rattle.packed_bits.specs.Bits.{ones_of}
 use Rattle.track_types.specs.PartsForm.{IsShapedPeriod}
 use Rattle.track_types.specs.declared.flaw.Section.TheVariants.{Presence, Offsets, TreeLen, Tree, Lasts, Perm, Lengths}
@@ -13,11 +11,11 @@ use Rattle.track_types.specs.declared.flaw.Kind.TheVariants.{Short}
 use Rattle.track_types.specs.declared.limit.TheConstants.{MAX_TREE}
 use Rattle.track_types.specs.declared.period_parts.PeriodParts.{PeriodParts}
 use Rattle.index_format.specs.Spelling.{short_bytes, bit_bytes, period_bytes}
-use Rattle.index_format.specs.Fields.{Taken, flaw_at, number_at, items_at, short_at, bits_at}
+use Rattle.index_format.specs.Fields.{flaw_at, number_at, items_at, short_at, bits_at}
 use Rattle.index_format.specs.Reading.{tree_length_at, period_sections_at}
 use Rattle.index_format.proofs.BitLemmas.{IsBytes}
 use Rattle.index_format.proofs.Laws.{Takes, Takes-then, Takes-text, then_ok, test_ok, wide32, number_at-takes, number_at-again, IsListed, items_at-takes, items_at-again, bits_at-takes, bits_at-again}
-use Rattle.index_format.proofs.ListLaws.{shorts_listed}
+use Rattle.index_format.proofs.ListLaws.{each_listed, shorts_listed}
 
 -- a tree's length that was read is spelled so
 tree_length_at-takes : (number : ℕ) (bytes : List ℕ) → IsBytes bytes
@@ -92,15 +90,6 @@ period_sections_at-again objects seen period rest shaped =
 
 -- periods of so many objects
 pub periods_listed : (objects : ℕ) → IsListed (period_sections_at objects) period_bytes (All (IsShapedPeriod objects))
-periods_listed objects = record {
-  none = All-nil (IsShapedPeriod objects);
-  front = λ xs ys all. All-front (IsShapedPeriod objects) xs ys all;
-  takes = λ seen bytes all fits. period_more seen bytes all (period_sections_at objects seen bytes) (period_sections_at-takes objects seen bytes fits);
-  again = λ seen period rest all. period_sections_at-again objects seen period rest (All-last (IsShapedPeriod objects) seen period all);
-}
-  where
-    period_more : (seen : List PeriodParts) (bytes : List ℕ) → All (IsShapedPeriod objects) seen → (read : Taken PeriodParts)
-        → IfOk read (λ period. Takes bytes (period_bytes period.0) period.1 × IsShapedPeriod objects period.0)
-        → IfOk read (λ period. Takes bytes (period_bytes period.0) period.1 × All (IsShapedPeriod objects) (seen ++ period.0 ∷ []))
-    period_more seen bytes all (Ok period) taken = (taken.0, All-snoc (IsShapedPeriod objects) seen period.0 all taken.1)
-    period_more seen bytes all (Err flaw) taken = tt
+periods_listed objects =
+    each_listed (period_sections_at objects) period_bytes (IsShapedPeriod objects) (period_sections_at-takes objects)
+    (period_sections_at-again objects)
