@@ -27,7 +27,7 @@ ended_bits-value bits value = elim (cases_Bool (nat_lt 0 (ones_of (take (length 
   ]
 ]
 
-module _ (header : Header) (bytes objects values : List ℕ) (rules : List (ℕ × ℕ)) (r1 r2 r3 : List Bool)
+module _ (header : Header) (bytes : List ℕ) {objects values : List ℕ} {rules : List (ℕ × ℕ)} {r1 r2 r3 : List Bool}
     (one : items_at object_in header.objects [] (bits_in bytes) ≡ Ok (objects, r1))
     (two : items_at (value_in header.frame.height) header.alphabet [] r1 ≡ Ok (values, r2))
     (three : rules_in (frame_rules header.frame values []) header.rules r2 ≡ Ok (rules, r3)) where
