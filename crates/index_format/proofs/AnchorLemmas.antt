@@ -1,5 +1,5 @@
 -- Blocks, read step by step.
-use Rattle.std.proofs.Common.{◌≡◌, ℕ, ◌+◌, ◌-◌, ◌<◌, ◌≤◌, ◌/◌, pos, true, false, ◌&&◌, nat_le, eqb, Bool, List, None, Some, Ok, Err, refl, sym, ap, ◌∙◌, arith}
+use Rattle.std.proofs.Common.{◌≡◌, ℕ, ◌+◌, ◌-◌, ◌<◌, ◌≤◌, ◌/◌, pos, true, false, ◌&&◌, nat_le, eqb, Bool, List, None, Some, Ok, Err, refl, sym, ap, arith}
 use Rattle.std.proofs.lemmas.Bool.Decides.{nat_tests}
 use Rattle.rule_store.specs.Cells.{cell_with, moved}
 use Rattle.spiral_code.specs.Spiral.{move_of}
@@ -10,27 +10,10 @@ use Rattle.track_types.specs.declared.format_fault.FormatFault.{FormatFault}
 use Rattle.track_types.specs.declared.format_fault.FormatFault.TheVariants as fault
 use Rattle.track_types.specs.declared.frame.Frame.{Frame}
 use Rattle.index_format.specs.Answers.{IsFormatFault}
-use Rattle.index_format.specs.Elements.{Element, told_at, wide_at}
-use Rattle.index_format.specs.Fields.{◌>>=◌, flaw_at}
+use Rattle.index_format.specs.Elements.{told_at, wide_at}
+use Rattle.index_format.specs.Fields.{flaw_at}
 use Rattle.index_format.specs.OutlineBlocks.{anchor_in, is_in_grid}
 use Rattle.index_format.specs.BlockSteps.{next_anchor_in}
-
--- what is read first could not be read
-pub bind-fault : {A B : Type 0} (first : Element A) (next : A × List Bool → Element B) (why : FormatFault)
-    → IsFormatFault first why → IsFormatFault (first >>= next) why
-bind-fault first next fault.Memory read = tt
-bind-fault first next (fault.Flaw flaw) read = rw read refl
-
--- what was read first leads on
-pub bind-ok : {A B : Type 0} (first : Element A) (next : A × List Bool → Element B) (x : A × List Bool)
-    → first ≡ Ok x → first >>= next ≡ next x
-bind-ok first next x read = rw read refl
-
--- what is the same was not read either
-pub fault-of : {A : Type 0} (first second : Element A) (why : FormatFault) → first ≡ second
-    → IsFormatFault second why → IsFormatFault first why
-fault-of first second fault.Memory same read = tt
-fault-of first second (fault.Flaw flaw) same read = same ∙ read
 
 module _ (frame : Frame) (period index : ℕ) (bits : List Bool) where
   -- a first anchor whose column is not told

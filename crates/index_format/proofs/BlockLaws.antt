@@ -9,8 +9,8 @@ use Rattle.std.proofs.lemmas.List.Elements.{All-head, All-tail, All-weaker}
 use Rattle.std.proofs.lemmas.List.Sums.{sum_by-append, sum_by-cons}
 use Rattle.list_laws.proofs.FrontLemmas.{All-back}
 use Rattle.std.proofs.lemmas.Bool.Decides.{nat_tests}
-use Rattle.std.proofs.lemmas.Int.{ints, of_z-to_z, to_z_pos}
-use Rattle.std.proofs.lemmas.List.{length-append, length-take-le, take-append-drop}
+use Rattle.std.proofs.lemmas.Int.{ints}
+use Rattle.std.proofs.lemmas.List.{length-append, length-take-le, nil_from_length, take-append-drop}
 use Rattle.packed_bits.specs.Words.{low_bits}
 use Rattle.bit_stream.specs.Numbers.{number_bits}
 use Rattle.spiral_code.specs.Spiral.{code_of, move_of, ring_of, square}
@@ -37,10 +37,10 @@ use Rattle.rule_store.specs.Log.{log_values}
 use Rattle.index_format.proofs.AlongLemmas.{end-inside}
 use Rattle.index_format.proofs.BlockPuttingLemmas.{object_bits-nil}
 use Rattle.index_format.proofs.BlockOrderLemmas.{all_length, blocks_bits-step, follow-back, follow-front, follow-tail, logs-back, logs-blocks, logs-front, logs-taken, object_bits-taken, parted}
-use Rattle.index_format.proofs.ElementLemmas.{told_at-number_bits}
-use Rattle.index_format.proofs.EntryLaws.{AreLasting, log-again, wide_at-low_bits}
-use Rattle.index_format.proofs.GridLemmas.{in_grid-bounds, ring_of-within}
-use Rattle.index_format.proofs.AnchorLemmas.{anchor_in-first, anchor_in-further, bind-ok, next_anchor_in-none, next_anchor_in-some}
+use Rattle.index_format.proofs.ElementLemmas.{bind-ok, told_at-number_bits, wide_at-low_bits}
+use Rattle.index_format.proofs.EntryLaws.{AreLasting, log-again}
+use Rattle.index_format.proofs.GridLemmas.{from_coordinate, in_grid-bounds, ring_of-within}
+use Rattle.index_format.proofs.AnchorLemmas.{anchor_in-first, anchor_in-further, next_anchor_in-none, next_anchor_in-some}
 
 -- a coordinate of a grid, as a number
 coordinate : (height : ℕ) (z : ℤ) → height ≤ MAX_HEIGHT → pos 0 ≤ℤ z → z ≤ℤ pos (2 ^ height - 1)
@@ -48,10 +48,9 @@ coordinate : (height : ℕ) (z : ℤ) → height ≤ MAX_HEIGHT → pos 0 ≤ℤ
 coordinate height z fits low high =
     let n = unsigned_abs z in
     let is : z ≡ pos n = omega (arith, ints, low) in
-    let most : 2 ^ height ≤ 2 ^ 24 = pow-le-pow_right {n = 2} (lit< tt) {i = height} {j = 24} fits in
     let some : 1 ≤ 2 ^ height = pow-le-pow_right {n = 2} (lit< tt) {i = 0} {j = height} (omega arith) in
     let below : n < 2 ^ height = omega (arith, ints, low, high, some) in
-    (n, is, below, ap (cast_unsigned w64) (is ∙ sym (to_z_pos w64 n (omega (arith, below, most)))) ∙ of_z-to_z w64 n (omega (arith, below, most)))
+    (n, is, below, ap (cast_unsigned w64) is ∙ from_coordinate height n fits below)
 
 -- an anchor that was put is read
 pub anchor-again : (frame : Frame) (period index : ℕ) (last : Option Cell) (cell : Cell) (rest : List Bool) → frame.height ≤ MAX_HEIGHT
@@ -232,11 +231,6 @@ end-again frame view index told most rest some enough =
           (no_anchor-again frame index told.next rest))
     ]
 
--- there are no symbols
-none_of : (log : List ℕ) → length log ≡ 0 → log ≡ []
-none_of [] none = refl
-none_of (symbol ∷ log) none = absurd (omega (arith, none))
-
 -- a block's bits, one part after the other
 pub object_bits-text : (frame : Frame) (view : RulesView) (next : ℕ) (last : Option Cell) (block : OutlineBlock) (blocks : List OutlineBlock) (log : List ℕ)
     → object_bits frame view next last (block ∷ blocks) log
@@ -278,7 +272,7 @@ module _ (frame : Frame) (some : 0 < frame.period) (high : frame.height ≤ MAX_
     read_is = ap (λ bits. further_in most frame view index told (bits ++ rest)) (object_bits-nil frame view told.next told.last log)
         ∙ end-again frame view index told most rest begun enough;
     blocks_are = sym (append-nil told.blocks);
-    symbols_are = sym (ap (λ log. told.symbols ++ log) (none_of log (sym long)) ∙ append-nil told.symbols);
+    symbols_are = sym (ap (λ log. told.symbols ++ log) (nil_from_length log (sym long)) ∙ append-nil told.symbols);
   }
   further-again (block ∷ blocks) index told log most rest each same order long fits begun kept enough room =
       let own = take block.length log in
@@ -336,7 +330,7 @@ module _ (frame : Frame) (some : 0 < frame.period) (high : frame.height ≤ MAX_
         ∙ object_blocks_in-none frame view index before (number_bits frame.span ++ rest) frame.span rest
         (told_at-number_bits (flaw_at Starts 0 index) frame.span rest (omega (arith, short))) refl;
     blocks_are = sym (append-nil before.blocks);
-    symbols_are = sym (ap (λ log. before.symbols ++ log) (none_of log (sym long)) ∙ append-nil before.symbols);
+    symbols_are = sym (ap (λ log. before.symbols ++ log) (nil_from_length log (sym long)) ∙ append-nil before.symbols);
   }
   object-again (block ∷ blocks) index before log rest each same order long lasts room =
       let own = take block.length log in
@@ -387,7 +381,7 @@ module _ (frame : Frame) (some : 0 < frame.period) (high : frame.height ≤ MAX_
     done = before;
     read_is = blocks_in-none frame view from before rest;
     blocks_are = sym (append-nil before.blocks);
-    symbols_are = sym (ap (λ log. before.symbols ++ log) (none_of log (sym long)) ∙ append-nil before.symbols);
+    symbols_are = sym (ap (λ log. before.symbols ++ log) (nil_from_length log (sym long)) ∙ append-nil before.symbols);
   }
   objects-again zero from before (block ∷ blocks) log rest each order above below long lasts room =
       absurd (omega (
@@ -417,9 +411,8 @@ module _ (frame : Frame) (some : 0 < frame.period) (high : frame.height ≤ MAX_
       let up : suc from ≡ from + 1 = omega arith in
       let below_back = subst (All (λ (block : OutlineBlock). block.index < from + suc n)) (sym split.joined) below in
       let next = objects-again n (from + 1) object.done others behind rest back (follow-back comes_after own others sorted)
-      (All-weaker (λ (block : OutlineBlock). from < block.index) (λ (block : OutlineBlock). from + 1 ≤ block.index) (λ block later. omega (arith, later)) others split.later)
-      (All-weaker (λ (block : OutlineBlock). block.index < from + suc n) (λ (block : OutlineBlock). block.index < from + 1 + n)
-      (λ block under. omega (arith, under)) others (All-back (λ (block : OutlineBlock). block.index < from + suc n) own others below_back))
+      (λ k d within. omega (arith, split.later k d within))
+      (λ k d within. omega (arith, All-back (λ (block : OutlineBlock). block.index < from + suc n) own others below_back k d within))
       (omega (arith, lengths, parts, joined, own_long)) lasts
       (omega (arith, room, lengths, parts, joined, own_long, ap length object.symbols_are, length-append before.symbols first)) in
       let here = object_bits frame view 0 None own log in
@@ -449,6 +442,5 @@ module _ (frame : Frame) (some : 0 < frame.period) (high : frame.height ≤ MAX_
   blocks-again blocks symbols rest each order long lasts room =
       objects-again objects 0 nothing_told blocks symbols rest each order
       (λ k d within. omega arith)
-      (logs-blocks (λ block. block.index < 0 + objects) blocks symbols
-      (All-weaker (IsBlock frame view objects) (λ it. it.0.index < 0 + objects) (λ it is. omega (arith, is.object)) (blocks_with_logs blocks symbols) each))
+      (logs-blocks (λ block. block.index < 0 + objects) blocks symbols (λ k d within. omega (arith, (each k d within).object)))
       long lasts (omega (arith, room))

@@ -17,7 +17,7 @@ use Rattle.index_format.specs.Fields.{◌>>=◌, flaw_at}
 use Rattle.index_format.specs.OutlineBlocks.{InLog, Told, anchor_in, block_in, blocks_in, further_in, log_in, object_blocks_in, period_end}
 use Rattle.rule_store.specs.Table.{IsWholeTable}
 use Rattle.index_format.specs.BlockSteps.{IsKept, next_anchor_in, nothing_told}
-use Rattle.index_format.proofs.AnchorLemmas.{bind-fault, bind-ok, fault-of}
+use Rattle.index_format.proofs.ElementLemmas.{bind-fault, bind-ok, fault-of}
 
 -- what is told after a block
 abbrev pub told_after : Frame → ℕ → Told → ℕ → Cell → InLog → Told
@@ -146,9 +146,8 @@ module _ (frame : Frame) (view : RulesView) (index : ℕ) (before : Told) (bits 
       pub object_blocks_in-no_block : (why : FormatFault) → IsFormatFault (block_in frame view index (object_begun before) start rest) why
           → IsFormatFault (object_blocks_in frame view index before bits) why
       object_blocks_in-no_block why read =
-          let next = λ (block : Told × List Bool). further_in frame.span frame view index block.0 block.1 in
-          fault-of (object_blocks_in frame view index before bits) (block_in frame view index (object_begun before) start rest >>= next) why
-          (object_blocks_in-some some) (bind-fault (block_in frame view index (object_begun before) start rest) next why read)
+          bind-fault (block_in frame view index (object_begun before) start rest) (λ block. further_in frame.span frame view index block.0 block.1)
+          (object_blocks_in-some some) why read
 
       module _ (first : Told) (after : List Bool) (block : block_in frame view index (object_begun before) start rest ≡ Ok (first, after)) where
         -- it and the further ones
@@ -159,9 +158,7 @@ module _ (frame : Frame) (view : RulesView) (index : ℕ) (before : Told) (bits 
 
         pub object_blocks_in-no_further : (why : FormatFault) → IsFormatFault (further_in frame.span frame view index first after) why
             → IsFormatFault (object_blocks_in frame view index before bits) why
-        object_blocks_in-no_further why read =
-            fault-of (object_blocks_in frame view index before bits) (further_in frame.span frame view index first after) why
-            object_blocks_in-then read
+        object_blocks_in-no_further why read = fault-of object_blocks_in-then why read
 
         pub object_blocks_in-ok : (all : Told × List Bool) → further_in frame.span frame view index first after ≡ Ok all
             → object_blocks_in frame view index before bits ≡ Ok all
@@ -213,9 +210,7 @@ module _ {table : EntryTable} {frame : Frame} {index count i : ℕ} {told : Told
         → IsFormatFault (next_anchor_in frame index told.next bits) why
         → IsFormatFault (further_in count frame view index first whole) why
     blocks-no_anchor view known why read =
-        fault-of (further_in count frame view index first whole)
-        (next_anchor_in frame index told.next bits >>= further_from (count - (i + 1)) frame view index told) why
-        (step view known) (bind-fault (next_anchor_in frame index told.next bits) (further_from (count - (i + 1)) frame view index told) why read)
+        bind-fault (next_anchor_in frame index told.next bits) (further_from (count - (i + 1)) frame view index told) (step view known) why read
 
     -- there is none
     pub blocks-last : (rest : List Bool) → next_anchor_in frame index told.next bits ≡ Ok (None, rest)
@@ -234,10 +229,8 @@ module _ {table : EntryTable} {frame : Frame} {index count i : ℕ} {told : Told
           → IsFormatFault (block_in frame view index told at after) why
           → IsFormatFault (further_in count frame view index first whole) why
       blocks-fault view known why read =
-          fault-of (further_in count frame view index first whole)
-          (block_in frame view index told at after >>= (λ block. further_in (count - (i + 1)) frame view index block.0 block.1)) why
-          (then_block view known) (bind-fault (block_in frame view index told at after)
-          (λ block. further_in (count - (i + 1)) frame view index block.0 block.1) why read)
+          bind-fault (block_in frame view index told at after) (λ block. further_in (count - (i + 1)) frame view index block.0 block.1)
+          (then_block view known) why read
 
       -- one block more was read
       pub blocks-more : (next : Told) (rest : List Bool) → IsKept frame.height next.last
@@ -276,10 +269,8 @@ module _ {table : EntryTable} {frame : Frame} {count i : ℕ} {told : Told} {bit
         → IsFormatFault (object_blocks_in frame view i told bits) why
         → IsFormatFault (blocks_in count frame view 0 nothing_told whole) why
     objects-fault view known why read =
-        fault-of (blocks_in count frame view 0 nothing_told whole)
-        (object_blocks_in frame view i told bits >>= (λ object. blocks_in (count - (i + 1)) frame view (suc i) object.0 object.1)) why
-        (object_step view known) (bind-fault (object_blocks_in frame view i told bits)
-        (λ object. blocks_in (count - (i + 1)) frame view (suc i) object.0 object.1) why read)
+        bind-fault (object_blocks_in frame view i told bits) (λ object. blocks_in (count - (i + 1)) frame view (suc i) object.0 object.1)
+        (object_step view known) why read
 
     -- one object more was read
     pub objects-more : (next : Told) (rest : List Bool)

@@ -6,8 +6,7 @@ use Rattle.std.specs.List.{flat_map}
 use Rattle.std.proofs.Math.Nat.{div-lt_iff_lt-mul, div-mul-le_self, lt-div-mul-add, mul-le-mul_right}
 use Rattle.std.proofs.lemmas.Bool.{cases_Bool, cases_lt}
 use Rattle.std.proofs.lemmas.Bool.Decides.{nat_tests}
-use Rattle.std.proofs.Math.Seq.{drop-append_seam, take-append_seam}
-use Rattle.std.proofs.lemmas.List.{length-append}
+use Rattle.std.proofs.lemmas.List.{drop_at, length-append, take_at}
 use Rattle.std.proofs.lemmas.List.Elements.{All-cons, All-head, All-nil}
 use Rattle.std.proofs.lemmas.List.Sums.{sum_by-cons}
 use Rattle.packed_bits.specs.Words.{low_bits}
@@ -30,7 +29,8 @@ use Rattle.index_format.specs.declared.outline.OutlineBlock.{OutlineBlock}
 use Rattle.index_format.proofs.BlockLemmas.{further_from, further_in-none, further_in-step, further_in-told, log_begun, object_begun, told_after}
 use Rattle.index_format.proofs.BlockLaws.{FitsAfter, block_text, object_bits-text, told_with}
 use Rattle.index_format.proofs.EntryLaws.{AreLasting}
-use Rattle.index_format.proofs.EntryOnlyLaws.{anchor-only, bind-only, else-only, log-only, ok-same, told_at-only}
+use Rattle.index_format.proofs.ElementLemmas.{bind-only, else-only, same-read, told_at-only}
+use Rattle.index_format.proofs.EntryOnlyLaws.{anchor-only, log-only}
 use Rattle.index_format.proofs.BlockOrderLemmas.{all_length}
 
 -- what is known of a block that was read
@@ -63,7 +63,7 @@ module _ (frame : Frame) (some : 0 < frame.period) (high : frame.height ≤ MAX_
       let second = bind-only (log_in left frame view p (log_begun frame told at cell) first.0.1)
       (λ log. Ok (told_after frame index told at cell log.0, log.1)) (done, rest) first.2 in
       let ended : InLog = second.0.0 in
-      let both = ok-same (told_after frame index told at cell ended, second.0.1) (done, rest) second.2 in
+      let both = same-read (told_after frame index told at cell ended) done second.0.1 rest second.2 in
       let anchor = anchor-only frame p index told.last bits cell first.0.1 high first.1 in
       let log = log-only frame view lasting p left (log_begun frame told at cell) first.0.1 ended second.0.1 (omega arith) anchor.1 room second.1 in
       let own = log.own in
@@ -91,19 +91,10 @@ module _ (frame : Frame) (some : 0 < frame.period) (high : frame.height ≤ MAX_
         number = refl;
         period = refl;
         at_is = at_is;
-        done_is = sym (ap (λ it. it.0) both)
-            ∙ ap (λ n. record {
-              blocks = told.blocks ++ record { period = p; index = index; offset = at - start; cell = cell; length = n } ∷ [];
-              symbols = ended.symbols;
-              next = end;
-              last = Some ended.cell;
-            }) long
-            ∙ ap (λ symbols. record { blocks = told.blocks ++ block ∷ []; symbols = symbols; next = end; last = Some ended.cell }) log.symbols
-            ∙ ap (λ at. record { blocks = told.blocks ++ block ∷ []; symbols = told.symbols ++ own; next = period_end frame at; last = Some ended.cell }) (sym at_is)
-            ∙ ap (λ cell. record { blocks = told.blocks ++ block ∷ []; symbols = told.symbols ++ own; next = period_end frame (start + (at - start)); last = Some cell }) log.ends;
+        done_is = sym both.0 ∙ rw (long, log.symbols, log.ends, at_is) refl;
         few = subst (λ symbols. length symbols ≤ limit_of Symbols) log.symbols log.few;
         spelled = anchor.0 ∙ ap (λ behind. anchor_bits frame.height told.last cell ++ behind) (log.spelled
-            ∙ ap (λ rest. flat_map (low_bits (entry_width view)) own ++ rest) (ap (λ it. it.1) both));
+            ∙ ap (λ rest. flat_map (low_bits (entry_width view)) own ++ rest) both.1);
       }
 
 -- what is known where the next anchor was read
@@ -125,16 +116,14 @@ next_anchor-only frame index next bits place rest some under read =
     let begun : eqb next 0 ≡ false = grind (arith, nat_tests, some) in
     elim (cases_Bool (eqb gap 1)) [
       | inl one ↦
-          let none : Option ℕ × List Bool = (None, first.0.1) in
-          let both = ok-same none (place, rest) (rw one at first.2) in
+          let both = same-read {A = Option ℕ} None place first.0.1 rest (rw one at first.2) in
           let gap_is : gap ≡ 1 = grind (arith, nat_tests, one) in
-          subst (AnchorOnly frame next bits rest) (ap (λ it. it.0) both)
-          (put.0 ∙ ap (λ gap. number_bits gap ++ first.0.1) gap_is ∙ ap (λ rest. number_bits 1 ++ rest) (ap (λ it. it.1) both))
+          subst (AnchorOnly frame next bits rest) both.0
+          (put.0 ∙ ap (λ gap. number_bits gap ++ first.0.1) gap_is ∙ ap (λ rest. number_bits 1 ++ rest) both.1)
       | inr more ↦
           let test = else-only (nat_le 2 gap && nat_le frame.span (next + gap - 1)) (flaw Offset) (Ok (Some (next + (gap - 1)), first.0.1)) (place, rest)
           (rw more at first.2) in
-          let there : Option ℕ × List Bool = (Some (next + (gap - 1)), first.0.1) in
-          let both = ok-same there (place, rest) test.1 in
+          let both = same-read {A = Option ℕ} (Some (next + (gap - 1))) place first.0.1 rest test.1 in
           let at = next + (gap - 1) in
           let within : at < frame.span = grind (arith, nat_tests, test.0, under, more) in
           let when : number_bits gap ≡ (number_bits (if eqb next 0 then at else if eqb at next then 0 else (at - next + 1))) =
@@ -149,11 +138,11 @@ next_anchor-only frame index next bits place rest some under read =
                 let none : gap ≡ 0 = omega (arith, over, other) in
                 rw (begun, same) (ap number_bits none)
           ] in
-          subst (AnchorOnly frame next bits rest) (ap (λ it. it.0) both) (
+          subst (AnchorOnly frame next bits rest) both.0 (
             omega arith,
             within,
             put.0 ∙ ap (λ front. front ++ first.0.1) when
-                ∙ ap (λ rest. number_bits (if eqb next 0 then at else if eqb at next then 0 else (at - next + 1)) ++ rest) (ap (λ it. it.1) both),
+                ∙ ap (λ rest. number_bits (if eqb next 0 then at else if eqb at next then 0 else (at - next + 1)) ++ rest) both.1,
           )
     ]
 
@@ -228,18 +217,10 @@ starts-within frame view objects blocks log each second rest is =
     omega (arith, block.offset)
 
 -- the first block has the first symbols, and the others have the others
-taken-own : (block : OutlineBlock) (own log : List ℕ) → length own ≡ block.length → take block.length (own ++ log) ≡ own
-taken-own block own log long = ap (λ n. take n (own ++ log)) (sym long) ∙ take-append_seam own log
-
-dropped-own : (block : OutlineBlock) (own log : List ℕ) → length own ≡ block.length → drop block.length (own ++ log) ≡ log
-dropped-own block own log long = ap (λ n. drop n (own ++ log)) (sym long) ∙ drop-append_seam own log
-
 logs-own : (block : OutlineBlock) (blocks : List OutlineBlock) (own log : List ℕ) → length own ≡ block.length
     → blocks_with_logs (block ∷ blocks) (own ++ log) ≡ (block, own) ∷ blocks_with_logs blocks log
 unfolding blocks_with_logs
-logs-own block blocks own log long =
-    ap (λ front. (block, front) ∷ blocks_with_logs blocks (drop block.length (own ++ log))) (taken-own block own log long)
-    ∙ ap (λ behind. (block, own) ∷ blocks_with_logs blocks behind) (dropped-own block own log long)
+logs-own block blocks own log long = rw (take_at own log block.length long, drop_at own log block.length long) refl
 
 -- a block before others, in bits
 pub object_bits-joined : (frame : Frame) (view : RulesView) (next : ℕ) (last : Option Cell) (block : OutlineBlock) (blocks : List OutlineBlock) (own log : List ℕ)
@@ -248,8 +229,8 @@ pub object_bits-joined : (frame : Frame) (view : RulesView) (next : ℕ) (last :
     ++ (object_bits frame view (period_end frame (anchor_instant frame block)) (Some (cell_after view block.cell own)) blocks log ++ rest)))
     ≡ object_bits frame view next last (block ∷ blocks) (own ++ log) ++ rest
 object_bits-joined frame view next last block blocks own log long rest =
-    let taken = taken-own block own log long in
-    let dropped = dropped-own block own log long in
+    let taken = take_at own log block.length long in
+    let dropped = drop_at own log block.length long in
     let at = anchor_instant frame block in
     sym (block_text (when_bits next at) (anchor_bits frame.height last block.cell) (flat_map (low_bits (entry_width view)) own)
     (object_bits frame view (period_end frame at) (Some (cell_after view block.cell own)) blocks log) rest
@@ -330,35 +311,47 @@ module _ (frame : Frame) (some : 0 < frame.period) (high : frame.height ≤ MAX_
       → length told.symbols ≤ limit_of Symbols → ◌≡◌ {A = Element Told} (Ok (told, bits)) (Ok (done, rest))
       → FurtherOnly frame view objects index told bits done rest
   further_ended told bits done rest begun over room read =
-      let both = ok-same (told, bits) (done, rest) read in
-      subst (λ done. FurtherOnly frame view objects index told bits done rest) (ap (λ it. it.0) both)
-      (further-none frame view objects index told bits rest room
-      (ap (λ it. it.1) both ∙ ap (λ front. front ++ rest) (sym (end_is-told told.next begun over))))
+      let both = same-read told done bits rest read in
+      subst (λ done. FurtherOnly frame view objects index told bits done rest) both.0
+      (further-none frame view objects index told bits rest room (both.1 ∙ ap (λ front. front ++ rest) (sym (end_is-told told.next begun over))))
 
-  -- where the next anchor is was read: there is none, or a block follows and others behind it
-  by_place : (most : ℕ) (told : Told) (bits : List Bool) (done : Told) (rest : List Bool) → 0 < told.next → IsBoundary frame told.next
-      → length told.symbols ≤ limit_of Symbols → frame.span ≤ told.next + suc most → told.next < frame.span
-      → ((told : Told) (bits : List Bool) → 0 < told.next → IsBoundary frame told.next → length told.symbols ≤ limit_of Symbols
-      → frame.span ≤ told.next + most → further_in most frame view index told bits ≡ Ok (done, rest) → FurtherOnly frame view objects index told bits done rest)
-      → (place : Option ℕ) (after : List Bool) → AnchorOnly frame told.next bits after place
-      → further_from most frame view index told (place, after) ≡ Ok (done, rest) → FurtherOnly frame view objects index told bits done rest
-  by_place most told bits done rest begun boundary room enough under again None after put read =
-      let both = ok-same (told, after) (done, rest) read in
-      subst (λ done. FurtherOnly frame view objects index told bits done rest) (ap (λ it. it.0) both)
-      (further-none frame view objects index told bits rest room
-      (put ∙ ap (λ rest. number_bits 1 ++ rest) (ap (λ it. it.1) both) ∙ ap (λ front. front ++ rest) (sym (end_is-none told.next begun under))))
-  by_place most told bits done rest begun boundary room enough under again (Some at) after put read =
+  -- further blocks that are read were put, with so many steps left
+  abbrev WerePut : ℕ → Told → List Bool → Type 0
+  WerePut most done rest = (told : Told) (bits : List Bool) → 0 < told.next → IsBoundary frame told.next → length told.symbols ≤ limit_of Symbols
+      → frame.span ≤ told.next + most → further_in most frame view index told bits ≡ Ok (done, rest)
+      → FurtherOnly frame view objects index told bits done rest
+
+  -- a block was read, and those behind it
+  block_then-only : (most : ℕ) (told : Told) (at : ℕ) (bits after : List Bool) (done : Told) (rest : List Bool) → at < frame.span
+      → length told.symbols ≤ limit_of Symbols → frame.span ≤ at + suc most → WerePut most done rest
+      → block_in frame view index told at after >>= (λ block. further_in most frame view index block.0 block.1) ≡ Ok (done, rest)
+      → (now : ℕ) → now ≤ at / frame.period * frame.period → bits ≡ when_bits now at ++ after
+      → FurtherOnly frame view objects index (record { blocks = told.blocks; symbols = told.symbols; next = now; last = told.last }) bits done rest
+  block_then-only most told at bits after done rest within room enough again read now early put =
       let first = bind-only (block_in frame view index told at after) (λ block. further_in most frame view index block.0 block.1) (done, rest) read in
-      let one = block-only frame some high view lasting objects index told at after first.0.0 first.0.1 inside put.1 room first.1 in
+      let one = block-only frame some high view lasting objects index told at after first.0.0 first.0.1 inside within room first.1 in
       let next : Told = told_with frame view told one.block one.own in
       let ends : next.next ≡ period_end frame at = ap (period_end frame) one.at_is in
       let p = at / frame.period in
       let next_one : (p + 1) * frame.period ≡ p * frame.period + frame.period = grind arith in
       let below : at < p * frame.period + frame.period = lt-div-mul-add {a = at} {b = frame.period} some in
-      let past : at < next.next = omega (arith, ends, next_one, below, put.1) in
-      let on = again next first.0.1 (omega (arith, past)) (p + 1, ends) one.few (omega (arith, enough, put.0, past))
+      let past : at < next.next = omega (arith, ends, next_one, below, within) in
+      let on = again next first.0.1 (omega (arith, past)) (p + 1, ends) one.few (omega (arith, enough, past))
       (subst (λ told. further_in most frame view index told first.0.1 ≡ Ok (done, rest)) one.done_is first.2) in
-      joined-only told at after first.0.0 first.0.1 done rest put.1 one on told.next (boundary-early told.next at boundary put.0 put.1) bits put.2
+      joined-only told at after first.0.0 first.0.1 done rest within one on now early bits put
+
+  -- where the next anchor is was read: there is none, or a block follows and others behind it
+  by_place : (most : ℕ) (told : Told) (bits : List Bool) (done : Told) (rest : List Bool) → 0 < told.next → IsBoundary frame told.next
+      → length told.symbols ≤ limit_of Symbols → frame.span ≤ told.next + suc most → told.next < frame.span → WerePut most done rest
+      → (place : Option ℕ) (after : List Bool) → AnchorOnly frame told.next bits after place
+      → further_from most frame view index told (place, after) ≡ Ok (done, rest) → FurtherOnly frame view objects index told bits done rest
+  by_place most told bits done rest begun boundary room enough under again None after put read =
+      let both = same-read told done after rest read in
+      subst (λ done. FurtherOnly frame view objects index told bits done rest) both.0 (further-none frame view objects index told bits rest room
+      (put ∙ ap (λ rest. number_bits 1 ++ rest) both.1 ∙ ap (λ front. front ++ rest) (sym (end_is-none told.next begun under))))
+  by_place most told bits done rest begun boundary room enough under again (Some at) after put read =
+      block_then-only most told at bits after done rest put.1 room (omega (arith, enough, put.0)) again read told.next
+      (boundary-early told.next at boundary put.0 put.1) put.2
 
   -- further blocks that are read were put
   pub further-only : (most : ℕ) (told : Told) (bits : List Bool) (done : Told) (rest : List Bool) → 0 < told.next → IsBoundary frame told.next
@@ -395,23 +388,14 @@ module _ (frame : Frame) (some : 0 < frame.period) (high : frame.height ≤ MAX_
       let test = else-only (nat_lt frame.span start) (flaw Offset) (if eqb start frame.span then Ok (told, after) else then_some (start, after)) (done, rest) first.2 in
       elim (cases_Bool (eqb start frame.span)) [
         | inl none ↦
-            let both = ok-same (told, after) (done, rest) (rw none at test.1) in
+            let both = same-read told done after rest (rw none at test.1) in
             let start_is : start ≡ frame.span = grind (arith, nat_tests, none) in
-            subst (λ done. FurtherOnly frame view objects index told bits done rest) (ap (λ it. it.0) both)
+            subst (λ done. FurtherOnly frame view objects index told bits done rest) both.0
             (further-none frame view objects index told bits rest room
-            (put.0 ∙ ap (λ start. number_bits start ++ after) start_is ∙ ap (λ rest. number_bits frame.span ++ rest) (ap (λ it. it.1) both)))
+            (put.0 ∙ ap (λ start. number_bits start ++ after) start_is ∙ ap (λ rest. number_bits frame.span ++ rest) both.1))
         | inr there ↦
             let within : start < frame.span = grind (arith, nat_tests, test.0, there) in
-            let second = bind-only (block_in frame view index told start after) (λ block. further_in frame.span frame view index block.0 block.1)
-            (done, rest) (rw there at test.1) in
-            let one = block-only frame some high view lasting objects index told start after second.0.0 second.0.1 inside within room second.1 in
-            let next : Told = told_with frame view told one.block one.own in
-            let ends : next.next ≡ period_end frame start = ap (period_end frame) one.at_is in
-            let p = start / frame.period in
-            let next_one : (p + 1) * frame.period ≡ p * frame.period + frame.period = grind arith in
-            let below : start < p * frame.period + frame.period = lt-div-mul-add {a = start} {b = frame.period} some in
-            let past : start < next.next = omega (arith, ends, next_one, below, within) in
-            let on = further-only frame.span next second.0.1 done rest (omega (arith, past)) (p + 1, ends) one.few (omega arith)
-            (subst (λ told. further_in frame.span frame view index told second.0.1 ≡ Ok (done, rest)) one.done_is second.2) in
-            joined-only told start after second.0.0 second.0.1 done rest within one on 0 (omega arith) bits put.0
+            block_then-only frame.span told start bits after done rest within room (omega arith)
+            (λ told bits begun boundary room enough. further-only frame.span told bits done rest begun boundary room enough)
+            (rw there at test.1) 0 (omega arith) put.0
       ]

@@ -7,7 +7,7 @@ use Rattle.std.proofs.lemmas.Bool.Decides.{nat_tests}
 use Rattle.std.proofs.lemmas.List.Sums.{sum_by-cons}
 use Rattle.std.proofs.lemmas.Bool.{cases_lt}
 use Rattle.std.proofs.lemmas.List.{drop_all, drop_more, take_more, drop-append-le, drop-drop, drop-take, length-drop, take-append-le, take-append-drop, take-take}
-use Rattle.std.proofs.lemmas.List.Elements.{All-push, All-cons, All-head, All-nil, All-tail, All-weaker, filter-append}
+use Rattle.std.proofs.lemmas.List.Elements.{All-push, All-cons, All-head, All-nil, All-tail, filter-append}
 use Rattle.list_laws.proofs.FilterLemmas.{filter-all}
 use Rattle.rule_store.specs.View.{RulesView}
 use Rattle.rule_store.specs.declared.entry_table.EntryTable.{EntryTable}
@@ -47,8 +47,7 @@ follow-above first (second ∷ rest) all =
     let both = and_parts (comes_after first second) (all_follow comes_after (second ∷ rest)) all in
     let next : first.index ≤ second.index = grind (arith, nat_tests, both.0) in
     All-cons (λ (block : OutlineBlock). first.index ≤ block.index) second rest next
-    (All-weaker (λ (block : OutlineBlock). second.index ≤ block.index) (λ (block : OutlineBlock). first.index ≤ block.index)
-    (λ block above. omega (arith, next, above)) rest (follow-above second rest both.1))
+    (λ k d within. omega (arith, next, follow-above second rest both.1 k d within))
 
 -- no element passes
 filter-none : {A : Type 0} (p : A → Bool) (xs : List A) → All (λ x. p x ≡ false) xs → filter p xs ≡ []
@@ -61,14 +60,10 @@ pub filter-own : (index : ℕ) (own others : List OutlineBlock) → All (λ (blo
     → All (λ (block : OutlineBlock). index < block.index) others
     → filter (λ (block : OutlineBlock). eqb block.index index) (own ++ others) ≡ own
 filter-own index own others same later =
-    filter-append (λ (block : OutlineBlock). eqb block.index index) own others
-    ∙ ap (λ front. front ++ filter (λ (block : OutlineBlock). eqb block.index index) others)
-    (filter-all (λ (block : OutlineBlock). eqb block.index index) own
-    (All-weaker (λ (block : OutlineBlock). block.index ≡ index) (λ (block : OutlineBlock). eqb block.index index ≡ true)
-    (λ block is. grind (arith, nat_tests, is)) own same))
-    ∙ ap (λ back. own ++ back) (filter-none (λ (block : OutlineBlock). eqb block.index index) others
-    (All-weaker (λ (block : OutlineBlock). index < block.index) (λ (block : OutlineBlock). eqb block.index index ≡ false)
-    (λ block above. grind (arith, nat_tests, above)) others later))
+    let mine = λ (block : OutlineBlock). eqb block.index index in
+    filter-append mine own others
+    ∙ ap (λ front. front ++ filter mine others) (filter-all mine own (λ k d within. grind (arith, nat_tests, same k d within)))
+    ∙ ap (λ back. own ++ back) (filter-none mine others (λ k d within. grind (arith, nat_tests, later k d within)))
     ∙ append-nil own
 
 -- blocks of objects before these places do not count
@@ -80,12 +75,10 @@ blocks_bits-behind frame view own others from zero log before = refl
 blocks_bits-behind frame view own others from (suc n) log before =
     let is = λ (block : OutlineBlock). eqb block.index from in
     let same : filter is (own ++ others) ≡ filter is others =
-    filter-append is own others ∙ ap (λ front. front ++ filter is others) (filter-none is own
-    (All-weaker (λ (block : OutlineBlock). block.index < from) (λ (block : OutlineBlock). eqb block.index from ≡ false)
-    (λ block under. grind (arith, nat_tests, under)) own before)) in
+    filter-append is own others ∙ ap (λ front. front ++ filter is others)
+    (filter-none is own (λ k d within. grind (arith, nat_tests, before k d within))) in
     let later = blocks_bits-behind frame view own others (from + 1) n (drop (all_length (filter is others)) log)
-    (All-weaker (λ (block : OutlineBlock). block.index < from) (λ (block : OutlineBlock). block.index < from + 1)
-    (λ block under. omega (arith, under)) own before) in
+    (λ k d within. omega (arith, before k d within)) in
     rw same (ap (λ rest. object_bits frame view 0 None (filter is others) (take (all_length (filter is others)) log) ++ rest) later)
 
 -- an object's bits are told by the symbols of its blocks
@@ -116,8 +109,7 @@ pub blocks_bits-step : (frame : Frame) (view : RulesView) (own others : List Out
 unfolding blocks_bits
 blocks_bits-step frame view own others index n log same later =
     let behind = blocks_bits-behind frame view own others (index + 1) n (drop (all_length own) log)
-    (All-weaker (λ (block : OutlineBlock). block.index ≡ index) (λ (block : OutlineBlock). block.index < index + 1)
-    (λ block is. omega (arith, is)) own same) in
+    (λ k d within. omega (arith, same k d within)) in
     rw (filter-own index own others same later) (
     ap (λ front. front ++ blocks_bits frame view (own ++ others) (range_with_len (index + 1) n) (drop (all_length own) log))
     (object_bits-taken frame view 0 None own log (all_length own) (omega arith))
@@ -191,8 +183,7 @@ module _ {table : EntryTable} {frame : Frame} {objects index : ℕ} {rest : List
           let sorted = subst (λ all. all_follow comes_after all ≡ true) parts (follow-drop comes_after count rest putting.order) in
           subst (All (λ (block : OutlineBlock). index < block.index)) (sym parts)
           (All-cons (λ (block : OutlineBlock). index < block.index) first (drop (count + 1) rest) next
-          (All-weaker (λ (block : OutlineBlock). first.index ≤ block.index) (λ (block : OutlineBlock). index < block.index)
-          (λ block above. omega (arith, next, above)) (drop (count + 1) rest) (follow-above first (drop (count + 1) rest) sorted)))
+          (λ k d inside. omega (arith, next, follow-above first (drop (count + 1) rest) sorted k d inside)))
     ]
 
     -- one object more
@@ -206,8 +197,7 @@ module _ {table : EntryTable} {frame : Frame} {objects index : ℕ} {rest : List
         let whole : own ++ others ≡ rest = take-append-drop count rest in
         record {
           order = follow-drop comes_after count rest putting.order;
-          above = All-weaker (λ (block : OutlineBlock). index < block.index) (λ (block : OutlineBlock). index + 1 ≤ block.index)
-              (λ block above. omega (arith, above)) others later;
+          above = λ k d within. omega (arith, later k d within);
           some = (
             putting.some.0,
             putting.some.1,
@@ -270,8 +260,7 @@ parted from (block ∷ blocks) order above =
         joined = refl;
         same = All-nil (λ (block : OutlineBlock). block.index ≡ from);
         later = All-cons (λ (block : OutlineBlock). from < block.index) block blocks later
-            (All-weaker (λ (next : OutlineBlock). block.index ≤ next.index) (λ (block : OutlineBlock). from < block.index)
-            (λ next over. omega (arith, later, over)) blocks (follow-above block blocks order));
+            (λ k d within. omega (arith, later, follow-above block blocks order k d within));
       }
       | inr same ↦
           let rest = parted from blocks (follow-tail comes_after block blocks order) (All-tail (λ (block : OutlineBlock). from ≤ block.index) block blocks above) in

@@ -1,14 +1,10 @@
 -- Logs: what was put is read.
-use Rattle.std.proofs.Common.{◌≡◌, ℕ, zero, suc, ◌+◌, ◌-◌, ◌<◌, ◌≤◌, ◌^◌, not, nat_le, true, Bool, List, [], ◌∷◌, ◌++◌, length, None, Ok, inl, inr, refl, sym, ap, ◌∙◌, arith, append_assoc, append-nil, lit<}
-use Rattle.std.specs.List.{flat_map, position_or_len, range_with_len, sum_by}
-use Rattle.std.proofs.Math.Nat.{mod-eq_of_lt, pow-le-pow_right}
+use Rattle.std.proofs.Common.{◌≡◌, ℕ, zero, suc, ◌+◌, ◌-◌, ◌<◌, ◌≤◌, ◌^◌, true, Bool, List, [], ◌∷◌, ◌++◌, length, None, Ok, inl, inr, refl, sym, ap, ◌∙◌, arith, append_assoc, append-nil}
+use Rattle.std.specs.List.{flat_map, sum_by}
 use Rattle.std.proofs.lemmas.Bool.{cases_lt}
-use Rattle.std.proofs.lemmas.Bool.Decides.{nat_tests}
 use Rattle.std.proofs.lemmas.List.{length-append}
-use Rattle.std.proofs.lemmas.List.FromFn.{get_or-range_with_len, length-range_with_len}
-use Rattle.std.proofs.lemmas.List.Sums.{prefix_len_stops, sum_by-cons}
+use Rattle.std.proofs.lemmas.List.Sums.{sum_by-cons}
 use Rattle.packed_bits.specs.Words.{low_bits}
-use Rattle.bit_stream.proofs.NumberLaws.{low_in-low_bits}
 use Rattle.rule_store.specs.Boxes.{bounding_box_of}
 use Rattle.rule_store.specs.Entry.{duration_of, entry_of}
 use Rattle.rule_store.specs.Expansion.{expansion_of, values_of}
@@ -17,22 +13,19 @@ use Rattle.rule_store.specs.View.{RulesView, symbols_in}
 use Rattle.rule_store.proofs.ExpansionLemmas.{expansion_of-rule, expansion_of-terminal, length-values_of}
 use Rattle.rule_store.proofs.FlawLemmas.{rule-sound}
 use Rattle.track_types.specs.Limits.{limit_of}
-use Rattle.track_types.specs.PartsForm.{width_for}
 use Rattle.track_types.specs.declared.cell.Cell.{Cell}
-use Rattle.track_types.specs.declared.flaw.Flaw.{Flaw}
-use Rattle.track_types.specs.declared.flaw.Kind.{Kind}
 use Rattle.track_types.specs.declared.flaw.Section.TheVariants.{Log}
 use Rattle.track_types.specs.declared.frame.Frame.{Frame}
 use Rattle.track_types.specs.declared.limit.LimitKind.TheVariants.{Symbols}
-use Rattle.index_format.specs.Elements.{wide_at}
 use Rattle.index_format.specs.Fields.{flaw_at}
 use Rattle.index_format.specs.OutlineBlocks.{cell_after, entry_in, entry_width, log_in, stays_in}
 use Rattle.index_format.specs.BlockSteps.{IsLogFrom, log_with}
 use Rattle.index_format.specs.declared.outline.entries.LogRest.{LogRest}
 use Rattle.index_format.proofs.AlongLemmas.{stays_in-along}
+use Rattle.index_format.proofs.WidthLemmas.{width_for-few}
 use Rattle.index_format.proofs.EntryLemmas.{entry_in-told, entry_read, log_after-known, log_in-filled, log_in-more, log_past-fits}
 use Rattle.index_format.proofs.BlockPuttingLemmas.{cell_after-cons, cell_after-nil, entry_end, log_from-first, log_from-known, log_from-next}
-use Rattle.index_format.proofs.AnchorLemmas.{bind-ok}
+use Rattle.index_format.proofs.ElementLemmas.{bind-ok, wide_at-low_bits}
 
 -- the rules of an index: each of their symbols lasts, and fits the width of an entry
 pub record AreLasting (view : RulesView) : Type 0 where
@@ -64,31 +57,6 @@ lasting-rules view sound few = record { few = few; each = λ symbol known. lasts
           omega (arith, long, left)
     ]
 
--- the width of an entry is enough for all symbols
-pub width_for-enough : (symbols : ℕ) → symbols ≤ 2 ^ 26 → symbols ≤ 2 ^ width_for symbols
-unfolding width_for
-width_for-enough symbols few =
-    let test : ℕ → Bool = λ width. not (nat_le symbols (2 ^ width)) in
-    let k = position_or_len (λ width. nat_le symbols (2 ^ width)) (range_with_len 1 26) in
-    let long = length-range_with_len 1 26 in
-    elim (cases_lt k 26) [
-      | inl found ↦
-          let stops = prefix_len_stops test (range_with_len 1 26) 0 (omega (arith, found, long)) in
-          let there = get_or-range_with_len 1 26 k 0 found in
-          let passes : nat_le symbols (2 ^ (1 + k)) ≡ true = grind (arith, nat_tests, rw there at stops) in
-          let up : 1 + k ≡ suc k = omega arith in
-          grind (arith, nat_tests, passes, up)
-      | inr none ↦
-          let more : 2 ^ 26 ≤ 2 ^ suc k = pow-le-pow_right {n = 2} (lit< tt) {i = 26} {j = suc k} (omega (arith, none)) in
-          omega (arith, few, more)
-    ]
-
--- a number of so many bits that was put is read
-pub wide_at-low_bits : (flaw : Kind → Flaw) (width value : ℕ) (rest : List Bool) → value < 2 ^ width
-    → wide_at flaw width (low_bits width value ++ rest) ≡ Ok (value, rest)
-unfolding wide_at
-wide_at-low_bits flaw width value rest small = rw (low_in-low_bits width value rest, mod-eq_of_lt small) refl
-
 -- the box of an entry is that of its values
 stays_entry : (height : ℕ) (view : RulesView) (symbol : ℕ) (cell : Cell) → stays_in height cell (bounding_box_of (values_of view symbol)) ≡ true
     → stays_in height cell (entry_of view symbol).hull ≡ true
@@ -103,7 +71,7 @@ module _ (frame : Frame) (view : RulesView) (lasting : AreLasting view) (period 
       ≡ Ok (log_with (symbols ++ symbol ∷ []) (record { rest = log.rest - duration_of view symbol; cell = entry_end view log.cell symbol }), rest)
   unfolding entry_of
   entry-again log symbols symbol rest room known stays fits =
-      let small : symbol < 2 ^ entry_width view = omega (arith, known, width_for-enough (symbols_in view) lasting.few) in
+      let small : symbol < 2 ^ entry_width view = omega (arith, known, (width_for-few (symbols_in view) lasting.few).1) in
       let lasts : (entry_of view symbol).duration ≡ duration_of view symbol = length-values_of view symbol in
       let leads = log_after-known frame.height view log symbol (entry_of view symbol) refl known
       ∙ log_past-fits frame.height log (entry_of view symbol) stays (omega (arith, lasts, fits)) in

@@ -24,7 +24,7 @@ use Rattle.rule_store.specs.Table.{IsWholeTable}
 use Rattle.index_format.specs.BlockSteps.{log_after, log_moved, log_past, log_with}
 use Rattle.rule_store.specs.declared.entry_table.EntryTable.{EntryTable}
 use Rattle.index_format.specs.declared.outline.entries.LogRest.{LogRest}
-use Rattle.index_format.proofs.AnchorLemmas.{bind-fault, bind-ok, fault-of}
+use Rattle.index_format.proofs.ElementLemmas.{bind-fault, bind-ok}
 use Rattle.index_format.proofs.AlongLemmas.{along-stays_in, end-inside}
 
 -- an entry whose box stays in the grid ends in it
@@ -175,10 +175,8 @@ module _ {table : EntryTable} {frame : Frame} {period count i : ℕ} {symbols : 
         → IsFormatFault (entry_in frame view period (log_with symbols log) bits) why
         → IsFormatFault (log_in count frame view period (log_with first start) whole) why
     entries-fault view known why read =
-        fault-of (log_in count frame view period (log_with first start) whole)
-        (entry_in frame view period (log_with symbols log) bits >>= (λ entry. log_in (count - (i + 1)) frame view period entry.0 entry.1)) why
-        (step view known) (bind-fault (entry_in frame view period (log_with symbols log) bits)
-        (λ entry. log_in (count - (i + 1)) frame view period entry.0 entry.1) why read)
+        bind-fault (entry_in frame view period (log_with symbols log) bits) (λ entry. log_in (count - (i + 1)) frame view period entry.0 entry.1)
+        (step view known) why read
 
     -- one entry more was read
     pub entries-more : (next : List ℕ) (after : LogRest) (rest : List Bool) → is_in_grid frame.height after.cell ≡ true

@@ -1,18 +1,16 @@
 -- Anchors and logs: what is read was put.
-use Rattle.std.proofs.Common.{◌≡◌, ℕ, zero, suc, ◌+◌, ◌-◌, ◌<◌, ◌≤◌, ◌^◌, pos, ◌+ℤ◌, ◌-ℤ◌, w64, nat_le, nat_lt, not, true, false, Bool, List, [], ◌∷◌, ◌++◌, length, Option, None, Some, Result, Ok, Err, inl, inr, refl, sym, ap, subst, ◌∙◌, arith, append_assoc, append-nil, lit<, if◌then◌else◌}
+use Rattle.std.proofs.Common.{◌≡◌, ℕ, zero, suc, ◌-◌, ◌<◌, ◌≤◌, pos, ◌+ℤ◌, ◌-ℤ◌, w64, nat_le, nat_lt, not, true, Bool, List, [], ◌∷◌, ◌++◌, length, Option, None, Some, Ok, Err, inl, inr, sym, ap, subst, ◌∙◌, arith, append_assoc, append-nil, if◌then◌else◌}
 use Rattle.std.specs.Prelude.{All}
 use Rattle.std.specs.Int.{cast_unsigned}
 use Rattle.std.specs.List.{flat_map, sum_by}
-use Rattle.std.proofs.Math.Nat.{pow-le-pow_right}
 use Rattle.std.proofs.lemmas.Bool.{cases_lt}
 use Rattle.std.proofs.lemmas.Bool.Decides.{nat_tests}
-use Rattle.std.proofs.lemmas.Int.{ints, of_z-to_z, to_z_pos}
+use Rattle.std.proofs.lemmas.Int.{ints}
 use Rattle.std.proofs.lemmas.List.{length-append}
 use Rattle.std.proofs.lemmas.List.Elements.{All-append, All-cons, All-nil}
 use Rattle.std.proofs.lemmas.List.Sums.{sum_by-cons}
 use Rattle.packed_bits.specs.Words.{low_bits}
-use Rattle.bit_stream.specs.Numbers.{TakenBits, low_in, number_bits, number_in}
-use Rattle.bit_stream.proofs.NumberLaws.{low_in-only, number_in-only}
+use Rattle.bit_stream.specs.Numbers.{number_bits}
 use Rattle.spiral_code.specs.Spiral.{code_of, move_of}
 use Rattle.spiral_code.proofs.SpiralLemmas.{code_of-move_of}
 use Rattle.rule_store.specs.Cells.{cell_with, cells_along, displacement_of, moved, present_in}
@@ -23,70 +21,21 @@ use Rattle.rule_store.specs.View.{RulesView, symbols_in}
 use Rattle.rule_store.proofs.ExpansionLemmas.{length-values_of}
 use Rattle.track_types.specs.Limits.{limit_of}
 use Rattle.track_types.specs.declared.cell.Cell.{Cell}
-use Rattle.track_types.specs.declared.flaw.Flaw.{Flaw}
-use Rattle.track_types.specs.declared.flaw.Kind.{Kind}
 use Rattle.track_types.specs.declared.flaw.Kind.TheVariants.{Duration, OffGrid, Symbol, Total}
 use Rattle.track_types.specs.declared.flaw.Section.TheVariants.{Anchors, Log}
 use Rattle.track_types.specs.declared.frame.Frame.{Frame}
 use Rattle.track_types.specs.declared.limit.LimitKind.TheVariants.{Symbols}
 use Rattle.track_types.specs.declared.limit.TheConstants.{MAX_HEIGHT}
-use Rattle.index_format.specs.Elements.{Element, at_place, told_at, wide_at}
+use Rattle.index_format.specs.Elements.{Element, told_at, wide_at}
 use Rattle.index_format.specs.Fields.{◌>>=◌, flaw_at}
 use Rattle.index_format.specs.OutlineBlocks.{InLog, anchor_bits, anchor_in, cell_after, entry_in, entry_width, is_in_grid, judged_entry, log_in, stays_in}
 use Rattle.index_format.specs.BlockSteps.{IsLogFrom}
 use Rattle.index_format.proofs.AlongLemmas.{along-stays_in, present-joined}
+use Rattle.index_format.proofs.ElementLemmas.{bind-only, else-only, same-read, then-only, told_at-only, wide_at-only}
 use Rattle.index_format.proofs.EntryLaws.{AreLasting}
 use Rattle.index_format.proofs.EntryLemmas.{entry-inside, log_in-filled, log_in-more, log_in-none}
-use Rattle.index_format.proofs.GridLemmas.{in_grid-from, same_code}
+use Rattle.index_format.proofs.GridLemmas.{from_coordinate, in_grid-from, same_code}
 use Rattle.index_format.proofs.BlockPuttingLemmas.{cell_after-cons, cell_after-nil, entry_end}
-
--- what was answered, or else something
-abbrev answer_or : {A : Type 0} → A → Result A Flaw → A
-answer_or other (Ok it) = it
-answer_or other (Err flaw) = other
-
--- two answers that are the same
-pub ok-same : {A : Type 0} (x y : A) → ◌≡◌ {A = Result A Flaw} (Ok x) (Ok y) → x ≡ y
-ok-same x y same = ap (answer_or x) same
-
--- a first step that succeeded, and the second
-pub bind-only : {A B : Type 0} (first : Element A) (next : A × List Bool → Element B) (last : B × List Bool) → first >>= next ≡ Ok last
-    → (x : A × List Bool) × (first ≡ Ok x) × (next x ≡ Ok last)
-bind-only (Ok x) next last read = (x, refl, read)
-bind-only (Err flaw) next last read = absurd (cc)
-
--- a test that was passed
-pub else-only : {A : Type 0} (test : Bool) (flaw : Flaw) (other : Element A) (last : A × List Bool)
-    → (if test then Err flaw else other) ≡ Ok last → (test ≡ false) × (other ≡ Ok last)
-else-only true flaw other last read = absurd (cc)
-else-only false flaw other last read = (refl, read)
-
-pub then-only : {A : Type 0} (test : Bool) (flaw : Flaw) (other : Element A) (last : A × List Bool)
-    → (if test then other else Err flaw) ≡ Ok last → (test ≡ true) × (other ≡ Ok last)
-then-only true flaw other last read = (refl, read)
-then-only false flaw other last read = absurd (cc)
-
--- bits that were taken
-at_place-only : (flaw : Kind → Flaw) (taken : TakenBits ℕ) (last : ℕ × List Bool) → at_place flaw taken ≡ Ok last → taken ≡ Ok last
-at_place-only flaw (Ok it) last read = ap Ok (ok-same it last read)
-at_place-only flaw (Err fault) last read = absurd (cc)
-
--- a number that is read was put
-pub told_at-only : (flaw : Kind → Flaw) (number : ℕ) (bits rest : List Bool) → told_at flaw bits ≡ Ok (number, rest)
-    → (bits ≡ number_bits number ++ rest) × (number + 2 ≤ 2 ^ 56)
-unfolding told_at
-told_at-only flaw number bits rest read = number_in-only number bits rest (at_place-only flaw (number_in bits) (number, rest) read)
-
-pub wide_at-only : (flaw : Kind → Flaw) (width value : ℕ) (bits rest : List Bool) → wide_at flaw width bits ≡ Ok (value, rest)
-    → (bits ≡ low_bits width value ++ rest) × (value < 2 ^ width)
-unfolding wide_at
-wide_at-only flaw width value bits rest read = low_in-only width value bits rest (at_place-only flaw (low_in width bits) (value, rest) read)
-
--- a coordinate that is read
-from_coordinate : (height n : ℕ) → height ≤ MAX_HEIGHT → n < 2 ^ height → cast_unsigned w64 (pos n) ≡ n
-from_coordinate height n fits small =
-    let most : 2 ^ height ≤ 2 ^ 24 = pow-le-pow_right {n = 2} (lit< tt) {i = height} {j = 24} fits in
-    ap (cast_unsigned w64) (sym (to_z_pos w64 n (omega (arith, small, most)))) ∙ of_z-to_z w64 n (omega (arith, small, most))
 
 -- an anchor that is read was put
 pub anchor-only : (frame : Frame) (period index : ℕ) (last : Option Cell) (bits : List Bool) (cell : Cell) (rest : List Bool) → frame.height ≤ MAX_HEIGHT
@@ -100,19 +49,17 @@ anchor-only frame period index None bits cell rest fits read =
     let x = first.0.0 in
     let second = bind-only (wide_at flaw frame.height first.0.1) (λ y. Ok (cell_with (pos x) (pos y.0), y.1)) (cell, rest) first.2 in
     let y = second.0.0 in
-    let both = ok-same (cell_with (pos x) (pos y), second.0.1) (cell, rest) second.2 in
-    let cell_is : cell_with (pos x) (pos y) ≡ cell = ap (λ it. it.0) both in
-    let left : second.0.1 ≡ rest = ap (λ it. it.1) both in
+    let same = same-read (cell_with (pos x) (pos y)) cell second.0.1 rest second.2 in
     let x_put = wide_at-only flaw frame.height x bits first.0.1 first.1 in
     let y_put = wide_at-only flaw frame.height y first.0.1 second.0.1 second.1 in
     let x_is = from_coordinate frame.height x fits x_put.1 in
     let y_is = from_coordinate frame.height y fits y_put.1 in (
-      x_put.0 ∙ ap (λ behind. low_bits frame.height x ++ behind) (y_put.0 ∙ ap (λ rest. low_bits frame.height y ++ rest) left)
+      x_put.0 ∙ ap (λ behind. low_bits frame.height x ++ behind) (y_put.0 ∙ ap (λ rest. low_bits frame.height y ++ rest) same.1)
           ∙ sym (append_assoc (low_bits frame.height x) (low_bits frame.height y) rest)
           ∙ ap (λ x. low_bits frame.height x ++ low_bits frame.height y ++ rest) (sym x_is)
           ∙ ap (λ y. low_bits frame.height (cast_unsigned w64 (pos x)) ++ low_bits frame.height y ++ rest) (sym y_is)
-          ∙ ap (λ (cell : Cell). low_bits frame.height (cast_unsigned w64 cell.x) ++ low_bits frame.height (cast_unsigned w64 cell.y) ++ rest) cell_is,
-      subst (λ cell. is_in_grid frame.height cell ≡ true) cell_is (in_grid-from frame.height (cell_with (pos x) (pos y)) (record {
+          ∙ ap (λ (cell : Cell). low_bits frame.height (cast_unsigned w64 cell.x) ++ low_bits frame.height (cast_unsigned w64 cell.y) ++ rest) same.0,
+      subst (λ cell. is_in_grid frame.height cell ≡ true) same.0 (in_grid-from frame.height (cell_with (pos x) (pos y)) (record {
         left = omega (arith, ints);
         right = omega (arith, ints, x_put.1);
         below = omega (arith, ints);
@@ -125,16 +72,14 @@ anchor-only frame period index (Some last) bits cell rest fits read =
     (λ code. if is_in_grid frame.height (moved last (move_of code.0)) then Ok (moved last (move_of code.0), code.1) else Err (flaw OffGrid)) (cell, rest) read in
     let code = first.0.0 in
     let test = then-only (is_in_grid frame.height (moved last (move_of code))) (flaw OffGrid) (Ok (moved last (move_of code), first.0.1)) (cell, rest) first.2 in
-    let both = ok-same (moved last (move_of code), first.0.1) (cell, rest) test.1 in
-    let cell_is : moved last (move_of code) ≡ cell = ap (λ it. it.0) both in
-    let left : first.0.1 ≡ rest = ap (λ it. it.1) both in
+    let both = same-read (moved last (move_of code)) cell first.0.1 rest test.1 in
     let put = told_at-only flaw code bits first.0.1 first.1 in
-    let x : cell.x ≡ last.x +ℤ (move_of code).0 = sym (ap (λ (cell : Cell). cell.x) cell_is) in
-    let y : cell.y ≡ last.y +ℤ (move_of code).1 = sym (ap (λ (cell : Cell). cell.y) cell_is) in
+    let x : cell.x ≡ last.x +ℤ (move_of code).0 = sym (ap (λ (cell : Cell). cell.x) both.0) in
+    let y : cell.y ≡ last.y +ℤ (move_of code).1 = sym (ap (λ (cell : Cell). cell.y) both.0) in
     let same : code_of (cell.x -ℤ last.x) (cell.y -ℤ last.y) ≡ code =
     same_code (cell.x -ℤ last.x) (cell.y -ℤ last.y) (move_of code).0 (move_of code).1 (omega (arith, ints, x)) (omega (arith, ints, y)) ∙ code_of-move_of code in (
-      put.0 ∙ ap (λ rest. number_bits code ++ rest) left ∙ ap (λ code. number_bits code ++ rest) (sym same),
-      subst (λ cell. is_in_grid frame.height cell ≡ true) cell_is test.0,
+      put.0 ∙ ap (λ rest. number_bits code ++ rest) both.1 ∙ ap (λ code. number_bits code ++ rest) (sym same),
+      subst (λ cell. is_in_grid frame.height cell ≡ true) both.0 test.0,
     )
 
 -- an entry lasts as long as its symbol
@@ -168,7 +113,7 @@ entry-only frame view period log bits next rest read =
     let stays = else-only (not (stays_in frame.height log.cell entry.hull)) (flaw OffGrid)
     (if nat_lt log.rest entry.duration then Err (flaw Duration) else Ok (after, first.0.1)) (next, rest) known.1 in
     let fits = else-only (nat_lt log.rest entry.duration) (flaw Duration) (Ok (after, first.0.1)) (next, rest) stays.1 in
-    let both = ok-same (after, first.0.1) (next, rest) fits.1 in
+    let both = same-read after next first.0.1 rest fits.1 in
     let put = wide_at-only flaw (entry_width view) symbol bits first.0.1 first.1 in
     let lasts : entry.duration ≡ duration_of view symbol = entry-lasts view symbol in
     let short : entry.duration ≤ log.rest = grind (arith, nat_tests, fits.0) in
@@ -178,9 +123,9 @@ entry-only frame view period log bits next rest read =
       known = grind (arith, nat_tests, known.0);
       stays = grind (arith, stays.0);
       fits = omega (arith, short, lasts);
-      next_is = sym (ap (λ it. it.0) both)
+      next_is = sym both.0
           ∙ ap (λ d. record { symbols = log.symbols ++ symbol ∷ []; rest = log.rest - d; cell = entry_end view log.cell symbol }) lasts;
-      spelled = put.0 ∙ ap (λ rest. low_bits (entry_width view) symbol ++ rest) (ap (λ it. it.1) both);
+      spelled = put.0 ∙ ap (λ rest. low_bits (entry_width view) symbol ++ rest) both.1;
     }
 
 -- what is known of a log that was read
@@ -223,16 +168,15 @@ module _ (frame : Frame) (view : RulesView) (lasting : AreLasting view) (period 
   filled : (log : InLog) (bits : List Bool) (done : InLog) (rest : List Bool) → log.rest ≡ 0 → is_in_grid frame.height log.cell ≡ true
       → length log.symbols ≤ limit_of Symbols → ◌≡◌ {A = Element InLog} (Ok (log, bits)) (Ok (done, rest)) → LogOnly frame view log bits done rest
   filled log bits done rest none inside room read =
-      let both = ok-same (log, bits) (done, rest) read in
-      let same : log ≡ done = ap (λ it. it.0) both in
+      let same = same-read log done bits rest read in
       record {
         own = [];
-        symbols = sym (ap (λ (log : InLog). log.symbols) same) ∙ sym (append-nil log.symbols);
+        symbols = sym (ap (λ (log : InLog). log.symbols) same.0) ∙ sym (append-nil log.symbols);
         from = log_from-nil frame.height view log.cell inside;
         fills = sym none;
-        ends = sym (ap (λ (log : InLog). log.cell) same) ∙ sym (cell_after-nil view log.cell);
-        few = subst (λ (log : InLog). length log.symbols ≤ limit_of Symbols) same room;
-        spelled = ap (λ it. it.1) both;
+        ends = sym (ap (λ (log : InLog). log.cell) same.0) ∙ sym (cell_after-nil view log.cell);
+        few = subst (λ (log : InLog). length log.symbols ≤ limit_of Symbols) same.0 room;
+        spelled = same.1;
       }
 
   -- a log that is read was put

@@ -11,7 +11,7 @@ use Rattle.track_types.specs.declared.flaw.Section.TheVariants.{Objects, Alphabe
 use Rattle.index_format.specs.Fields.{flaw_at, items_at}
 use Rattle.index_format.specs.Elements.{Element, told_at}
 use Rattle.index_format.specs.OutlineLists.{least_after, object_in, value_in, gaps_from, told_bits}
-use Rattle.index_format.proofs.ElementLemmas.{same-ok, step-ok, told_at-number_bits, told_at-only}
+use Rattle.index_format.proofs.ElementLemmas.{bind-only, same-read, told_at-number_bits, told_at-only}
 use Rattle.index_format.proofs.OutlineLemmas.{least_after-more, object_in-ok, value_in-ok}
 
 -- each number is at least the one that may stand there, and at most a greatest one
@@ -62,16 +62,16 @@ module _ {greatest : ℕ} {next : List ℕ → List Bool → Element ℕ} (gappe
       → items_at next count seen bits ≡ Ok (all, rest) → AreGaps greatest count seen all bits rest
   unfolding items_at told_bits gaps_from
   gaps-only zero seen bits all rest read =
-      let same = same-ok (seen, bits) (all, rest) (Ok (seen, bits)) refl read in
+      let same = same-read seen all bits rest read in
       record {
         numbers = [];
-        whole = ap (λ it. it.0) (sym same) ∙ sym (append-nil seen);
+        whole = sym same.0 ∙ sym (append-nil seen);
         long = refl;
         ascends = tt;
-        taken = ap (λ it. it.1) same;
+        taken = same.1;
       }
   gaps-only (suc more) seen bits all rest read =
-      let first = step-ok (next seen bits) (λ item. items_at next more (seen ++ item.0 ∷ []) item.1) (all, rest) read in
+      let first = bind-only (next seen bits) (λ item. items_at next more (seen ++ item.0 ∷ []) item.1) (all, rest) read in
       let number = first.0.0 in
       let one = gapped.only seen bits number first.0.1 first.1 in
       let others = gaps-only more (seen ++ number ∷ []) first.0.1 all rest first.2 in
@@ -100,19 +100,18 @@ objects-gapped = record {
       ∙ ap (λ n. Ok (n, rest)) whole;
   only = λ seen bits number rest read.
       let test = λ (gap : ℕ × List Bool). nat_le (least_after seen + gap.0) (2 ^ 32 - 1) in
-      let first = step-ok (told_at (flaw_at Objects 0 (length seen)) bits) _ (number, rest) read in
+      let first = bind-only (told_at (flaw_at Objects 0 (length seen)) bits) _ (number, rest) read in
       let gap = first.0.0 in
       let told = told_at-only (flaw_at Objects 0 (length seen)) gap bits first.0.1 first.1 in
       elim (cases_Bool (nat_le (least_after seen + gap) (2 ^ 32 - 1))) [
         | inl good ↦
-            let same = same-ok (least_after seen + gap, first.0.1) (number, rest) (Ok (least_after seen + gap, first.0.1)) refl (rw good at first.2) in
-            let number_is : least_after seen + gap ≡ number = ap (λ it. it.0) same in
-            let back : number - least_after seen ≡ gap = omega (arith, number_is) in
+            let same = same-read (least_after seen + gap) number first.0.1 rest (rw good at first.2) in
+            let back : number - least_after seen ≡ gap = omega (arith, same.0) in
             let within : least_after seen + gap ≤ 2 ^ 32 - 1 = grind (arith, nat_tests, good) in
             record {
-              low = omega (arith, number_is);
-              high = omega (arith, number_is, within);
-              taken = told.0 ∙ rw (back, ap (λ it. it.1) same) refl;
+              low = omega (arith, same.0);
+              high = omega (arith, same.0, within);
+              taken = told.0 ∙ rw (back, same.1) refl;
             }
         | inr bad ↦ absurd (let e = rw bad at first.2 in cc)
       ];
@@ -132,19 +131,18 @@ values-gapped height small = record {
       ∙ ap (λ n. Ok (n, rest)) whole;
   only = λ seen bits number rest read.
       let greatest = square (2 * reach_limit height + 1) in
-      let first = step-ok (told_at (flaw_at Alphabet 0 (length seen)) bits) _ (number, rest) read in
+      let first = bind-only (told_at (flaw_at Alphabet 0 (length seen)) bits) _ (number, rest) read in
       let gap = first.0.0 in
       let told = told_at-only (flaw_at Alphabet 0 (length seen)) gap bits first.0.1 first.1 in
       elim (cases_Bool (leads_out height (least_after seen + gap))) [
         | inl far ↦ absurd (let e = rw far at first.2 in cc)
         | inr near ↦
-            let same = same-ok (least_after seen + gap, first.0.1) (number, rest) (Ok (least_after seen + gap, first.0.1)) refl (rw near at first.2) in
-            let number_is : least_after seen + gap ≡ number = ap (λ it. it.0) same in
-            let back : number - least_after seen ≡ gap = omega (arith, number_is) in
+            let same = same-read (least_after seen + gap) number first.0.1 rest (rw near at first.2) in
+            let back : number - least_after seen ≡ gap = omega (arith, same.0) in
             record {
-              low = omega (arith, number_is);
-              high = subst (λ n. n ≤ greatest) number_is (within (least_after seen + gap) near);
-              taken = told.0 ∙ rw (back, ap (λ it. it.1) same) refl;
+              low = omega (arith, same.0);
+              high = subst (λ n. n ≤ greatest) same.0 (within (least_after seen + gap) near);
+              taken = told.0 ∙ rw (back, same.1) refl;
             }
       ];
 }

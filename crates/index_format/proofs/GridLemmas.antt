@@ -1,8 +1,10 @@
 -- Cells of a grid, and the movements between them.
-use Rattle.std.proofs.Common.{◌≡◌, ℕ, ◌-◌, ◌≤◌, ◌^◌, ℤ, pos, ◌≤ℤ◌, true, false, ◌&&◌, ap, ◌∙◌, inl, inr, arith}
+use Rattle.std.proofs.Common.{◌≡◌, ℕ, ◌-◌, ◌<◌, ◌≤◌, ◌^◌, ℤ, pos, ◌≤ℤ◌, w64, true, false, ◌&&◌, ap, sym, ◌∙◌, inl, inr, arith, lit<}
+use Rattle.std.specs.Int.{cast_unsigned}
 use Rattle.std.specs.Int.Signed.{le_z}
 use Rattle.std.proofs.lemmas.Bool.{and_from, and_parts, cases_Bool}
-use Rattle.std.proofs.lemmas.Int.{ints}
+use Rattle.std.proofs.lemmas.Int.{ints, of_z-to_z, to_z_pos}
+use Rattle.std.proofs.Math.Nat.{pow-le-pow_right}
 use Rattle.std.specs.Prelude.{unsigned_abs}
 use Rattle.spiral_code.specs.Spiral.{code_of, move_of, ring_of, square}
 use Rattle.spiral_code.proofs.SpiralLemmas.{move_of-below}
@@ -41,6 +43,12 @@ in_grid-from height cell is =
     (and_from (le_z (pos 0) cell.x && le_z cell.x far) (le_z (pos 0) cell.y)
     (and_from (le_z (pos 0) cell.x) (le_z cell.x far) (le_z-from (pos 0) cell.x is.left) (le_z-from cell.x far is.right))
     (le_z-from (pos 0) cell.y is.below)) (le_z-from cell.y far is.above)
+
+-- a coordinate of a grid is a number of its own
+pub from_coordinate : (height n : ℕ) → height ≤ MAX_HEIGHT → n < 2 ^ height → cast_unsigned w64 (pos n) ≡ n
+from_coordinate height n fits small =
+    let most : 2 ^ height ≤ 2 ^ 24 = pow-le-pow_right {n = 2} (lit< tt) {i = height} {j = 24} fits in
+    ap (cast_unsigned w64) (sym (to_z_pos w64 n (omega (arith, small, most)))) ∙ of_z-to_z w64 n (omega (arith, small, most))
 
 -- the code of a movement, by its two distances
 pub same_code : (x y u v : ℤ) → x ≡ u → y ≡ v → code_of x y ≡ code_of u v

@@ -1,11 +1,10 @@
 -- Rules by layers: what is read was put.
-use Rattle.std.proofs.Common.{◌≡◌, ℕ, zero, suc, ◌+◌, ◌-◌, ◌<◌, ◌≤◌, ◌^◌, true, false, Bool, nat_lt, eqb, Option, Some, None, Result, Ok, Err, List, [], ◌∷◌, ◌++◌, length, refl, sym, ap, subst, ◌∙◌, inl, inr, arith, append_assoc, append-nil}
+use Rattle.std.proofs.Common.{◌≡◌, ℕ, zero, suc, ◌+◌, ◌-◌, ◌<◌, ◌≤◌, false, Bool, nat_lt, eqb, Option, Some, None, Ok, Err, List, [], ◌∷◌, ◌++◌, length, refl, sym, ap, subst, ◌∙◌, inl, inr, arith, append_assoc, append-nil}
 use Rattle.std.specs.Prelude.{⊤, if◌then◌else◌}
-use Rattle.std.proofs.lemmas.Bool.{cases_Bool, cases_lt, lt-ltb, le-ltb}
+use Rattle.std.proofs.lemmas.Bool.{cases_Bool, cases_lt}
 use Rattle.std.proofs.lemmas.Bool.Decides.{nat_tests}
 use Rattle.std.proofs.lemmas.List.{length-append}
-use Rattle.bit_stream.specs.Numbers.{TakenBits, number_bits, number_in}
-use Rattle.bit_stream.proofs.NumberLaws.{bind-ok, number_in-only}
+use Rattle.bit_stream.specs.Numbers.{number_bits}
 use Rattle.rule_store.specs.View.{RulesView}
 use Rattle.rule_store.specs.Flaws.{is_rule_flawed, rule_flaw}
 use Rattle.rule_store.proofs.FlawLemmas.{rule_flaw-none}
@@ -15,48 +14,16 @@ use Rattle.track_types.specs.declared.flaw.Kind.TheVariants.{Field}
 use Rattle.track_types.specs.declared.flaw.Kind.TheVariants as kind
 use Rattle.track_types.specs.declared.flaw.Section.TheVariants.{Layers, Rules}
 use Rattle.index_format.specs.Fields.{◌>>=◌, flaw_at, items_at}
-use Rattle.index_format.specs.Elements.{Element, at_place, told_at}
+use Rattle.index_format.specs.Elements.{Element, told_at}
 use Rattle.index_format.specs.IsOutline.{AreInOrder}
 use Rattle.index_format.specs.OutlineLists.{told_bits}
 use Rattle.index_format.specs.OutlineRules.{is_flawed_under, layer_floor, layer_rule_in, layers_in, least_left, least_right, rule_before, rule_numbers, rules_bits, rules_in, with_rules}
 use Rattle.index_format.specs.LayerLists.{IsLayer, AreLayers, rules_of, layers_bits}
+use Rattle.index_format.proofs.ElementLemmas.{bind-only, else-only, same-read, told_at-only}
 use Rattle.index_format.proofs.LayerLemmas.{flawed_under-left, flawed_under-right, flawed_under-both, rule_before-more, rule_before-none}
 use Rattle.index_format.proofs.LayerBits.{rules_bits-layers}
 use Rattle.index_format.proofs.LayerLaws.{AreSound, flawed-longer, split-layer}
 use Rattle.index_format.proofs.OrderLemmas.{layers-in_order}
-
--- what was read, or else something
-abbrev value_or : {A E : Type 0} → A → Result A E → A
-value_or other (Ok value) = value
-value_or other (Err fault) = other
-
--- what is read of rules
-abbrev Read : Type 0
-Read = Element (List (ℕ × ℕ))
-
--- the same rules, and the same bits after them
-same_of : (seen all : List (ℕ × ℕ)) (bits rest : List Bool) (first : Read) → first ≡ Ok (seen, bits) → first ≡ Ok (all, rest)
-    → (seen ≡ all) × (bits ≡ rest)
-same_of seen all bits rest first here there =
-    let same = sym here ∙ there in
-    (ap (λ (it : Read). (value_or (all, rest) it).0) same, ap (λ (it : Read). (value_or (all, rest) it).1) same)
-
--- a number that is an element
-at_place-ok : (flaw : Kind → Flaw) (read : TakenBits ℕ) (it : ℕ × List Bool) → at_place flaw read ≡ Ok it → read ≡ Ok it
-at_place-ok flaw (Ok taken) it is = ap (λ it. Ok it) (ap (value_or it) is)
-at_place-ok flaw (Err fault) it is = absurd (let e = is in cc)
-
--- a number that is read was put
-pub told_at-only : (flaw : Kind → Flaw) (number : ℕ) (bits rest : List Bool) → told_at flaw bits ≡ Ok (number, rest)
-    → (bits ≡ number_bits number ++ rest) × (number + 2 ≤ 2 ^ 56)
-unfolding told_at
-told_at-only flaw number bits rest read = number_in-only number bits rest (at_place-ok flaw (number_in bits) (number, rest) read)
-
--- a value that passed a test
-judged-ok : {A : Type 0} (fails : Bool) (it : A) (flaw : Flaw) (last : A) → (if fails then Err flaw else Ok it) ≡ Ok last
-    → (fails ≡ false) × (it ≡ last)
-judged-ok true it flaw last is = absurd (let e = is in cc)
-judged-ok false it flaw last is = (refl, ap (value_or it) is)
 
 -- a rule that is read
 pub record IsReadRule (view : RulesView) (base top : ℕ) (before : Option (ℕ × ℕ)) (seen : List (ℕ × ℕ)) (rule : ℕ × ℕ) (bits rest : List Bool) : Type 0 where
@@ -109,17 +76,16 @@ module _ (view : RulesView) (base top : ℕ) where
       let rule_by : ℕ → ℕ → ℕ × ℕ = λ more right. (least_left before + more, least_right base before (least_left before + more) + right) in
       let judged : ℕ → ℕ × List Bool → Element (ℕ × ℕ) =
       λ more right. if is_flawed_under view top seen (rule_by more right.0) then Err (flaw kind.Rule) else Ok (rule_by more right.0, right.1) in
-      let first = bind-ok (told_at flaw bits) (λ more. told_at flaw more.1 >>= judged more.0) (rule, rest) read in
+      let first = bind-only (told_at flaw bits) (λ more. told_at flaw more.1 >>= judged more.0) (rule, rest) read in
       let more = first.0.0 in
       let middle = first.0.1 in
-      let second = bind-ok (told_at flaw middle) (judged more) (rule, rest) first.2 in
+      let second = bind-only (told_at flaw middle) (judged more) (rule, rest) first.2 in
       let right = second.0.0 in
-      let last = judged-ok (is_flawed_under view top seen (rule_by more right)) (rule_by more right, second.0.1) (flaw kind.Rule) (rule, rest) second.2 in
-      let is : rule_by more right ≡ rule = ap (λ (it : (ℕ × ℕ) × List Bool). it.0) last.1 in
-      let left : second.0.1 ≡ rest = ap (λ (it : (ℕ × ℕ) × List Bool). it.1) last.1 in
+      let last = else-only (is_flawed_under view top seen (rule_by more right)) (flaw kind.Rule) (Ok (rule_by more right, second.0.1)) (rule, rest) second.2 in
+      let same = same-read (rule_by more right) rule second.0.1 rest last.1 in
       read_rule before seen more right rule bits middle rest (told_at-only flaw more bits middle first.1).0
-      ((told_at-only flaw right middle second.0.1 second.1).0 ∙ ap (λ rest. number_bits right ++ rest) left)
-      is (ap (is_flawed_under view top seen) (sym is) ∙ last.0)
+      ((told_at-only flaw right middle second.0.1 second.1).0 ∙ ap (λ rest. number_bits right ++ rest) same.1)
+      same.0 (ap (is_flawed_under view top seen) (sym same.0) ∙ last.0)
 
   -- the rule before has a right part that is not under its floor
   abbrev HasFloor : Option (ℕ × ℕ) → Type 0
@@ -153,7 +119,7 @@ module _ (view : RulesView) (base top : ℕ) where
       → items_at (layer_rule_in view base top start) many seen bits ≡ Ok (all, rest) → IsReadLayer before many seen all bits rest
   unfolding items_at IsLayer rule_numbers told_bits
   layer-only zero start before seen all bits rest has begun last read =
-      let same = same_of seen all bits rest (Ok (seen, bits)) refl read in
+      let same = same-read seen all bits rest read in
       record {
         layer = [];
         whole = sym same.0 ∙ sym (append-nil seen);
@@ -164,7 +130,7 @@ module _ (view : RulesView) (base top : ℕ) where
       }
   layer-only (suc many) start before seen all bits rest has begun last read =
       let next = layer_rule_in view base top start in
-      let step = bind-ok (next seen bits) (λ item. items_at next many (seen ++ item.0 ∷ []) item.1) (all, rest) read in
+      let step = bind-only (next seen bits) (λ item. items_at next many (seen ++ item.0 ∷ []) item.1) (all, rest) read in
       let rule : ℕ × ℕ = step.0.0 in
       let after : List Bool = step.0.1 in
       let one = subst (λ before. IsReadRule view base top before seen rule bits after) last (rule-only start seen rule bits after step.1) in
@@ -259,38 +225,35 @@ module _ (view : RulesView) where
   unfolding layers_in
   begun left count layer base seen all bits rest differ read =
       let top = length view.alphabet + length seen in
-      let others : List (ℕ × ℕ) × List Bool → Read = λ told. layers_in left view count (suc layer) top told.0 told.1 in
-      let rules : ℕ → List Bool → Read = λ more after. items_at (layer_rule_in view base top (length seen)) (suc more) seen after in
-      let first = bind-ok (told_at (flaw_at Layers 0 layer) bits)
+      let others : List (ℕ × ℕ) × List Bool → Element (List (ℕ × ℕ)) = λ told. layers_in left view count (suc layer) top told.0 told.1 in
+      let rules : ℕ → List Bool → Element (List (ℕ × ℕ)) = λ more after. items_at (layer_rule_in view base top (length seen)) (suc more) seen after in
+      let first = bind-only (told_at (flaw_at Layers 0 layer) bits)
       (λ told. if nat_lt (count - length seen) (suc told.0) then Err (flaw_at Layers 0 layer Field) else (rules told.0 told.1 >>= others))
       (all, rest) (rw differ at read) in
       let more = first.0.0 in
       let after = first.0.1 in
-      elim (cases_lt (count - length seen) (suc more)) [
-        | inl large ↦ absurd (let e = rw (lt-ltb (count - length seen) (suc more) large) at first.2 in cc)
-        | inr small ↦
-            let second = bind-ok (rules more after) others (all, rest) (rw (le-ltb (count - length seen) (suc more) small) at first.2) in
-            record {
-              more = more;
-              longer = second.0.0;
-              after = after;
-              middle = second.0.1;
-              small = small;
-              told = (told_at-only (flaw_at Layers 0 layer) more bits after first.1).0;
-              rules = second.1;
-              others = second.2;
-            }
-      ]
+      let test = else-only (nat_lt (count - length seen) (suc more)) (flaw_at Layers 0 layer Field) (rules more after >>= others) (all, rest) first.2 in
+      let second = bind-only (rules more after) others (all, rest) test.1 in
+      record {
+        more = more;
+        longer = second.0.0;
+        after = after;
+        middle = second.0.1;
+        small = grind (arith, nat_tests, test.0);
+        told = (told_at-only (flaw_at Layers 0 layer) more bits after first.1).0;
+        rules = second.1;
+        others = second.2;
+      }
 
   -- they were put
   pub layers-only : (left count layer base : ℕ) (seen all : List (ℕ × ℕ)) (bits rest : List Bool) → length seen ≤ count → count ≤ length seen + left
       → layers_in left view count layer base seen bits ≡ Ok (all, rest) → IsReadLayers base count seen all bits rest
   unfolding layers_in
   layers-only zero count layer base seen all bits rest few enough read =
-      read_all base count seen all bits rest (omega (arith, few, enough)) (same_of seen all bits rest (Ok (seen, bits)) refl read)
+      read_all base count seen all bits rest (omega (arith, few, enough)) (same-read seen all bits rest read)
   layers-only (suc left) count layer base seen all bits rest few enough read = elim (cases_Bool (eqb (length seen) count)) [
     | inl same ↦ read_all base count seen all bits rest (grind (arith, nat_tests, same))
-        (same_of seen all bits rest (Ok (seen, bits)) refl (rw same at read))
+        (same-read seen all bits rest (rw same at read))
     | inr differ ↦
         let it = begun left count layer base seen all bits rest differ read in
         let top = length view.alphabet + length seen in

@@ -2,9 +2,8 @@
 use Rattle.std.proofs.Common.{◌≡◌, ℕ, zero, suc, ◌+◌, ◌<◌, ◌≤◌, true, Bool, List, [], ◌++◌, length, take, drop, None, Ok, refl, sym, ap, subst, ◌∙◌, arith, append_assoc, append-nil, lit≤}
 use Rattle.std.specs.Prelude.{All}
 use Rattle.std.specs.List.{range_with_len}
-use Rattle.std.proofs.Math.Seq.{drop-append_seam, take-append_seam}
-use Rattle.std.proofs.lemmas.List.{length-append}
-use Rattle.std.proofs.lemmas.List.Elements.{All-append, All-nil, All-weaker}
+use Rattle.std.proofs.lemmas.List.{drop_at, length-append, take_at}
+use Rattle.std.proofs.lemmas.List.Elements.{All-append, All-nil}
 use Rattle.std.proofs.lemmas.List.Sums.{sum_by-append}
 use Rattle.rule_store.specs.View.{RulesView}
 use Rattle.track_types.specs.Limits.{limit_of}
@@ -17,7 +16,7 @@ use Rattle.index_format.specs.BlockSteps.{nothing_told}
 use Rattle.index_format.specs.declared.outline.OutlineBlock.{OutlineBlock}
 use Rattle.index_format.proofs.BlockLemmas.{blocks_in-more, blocks_in-none}
 use Rattle.index_format.proofs.EntryLaws.{AreLasting}
-use Rattle.index_format.proofs.EntryOnlyLaws.{bind-only, ok-same}
+use Rattle.index_format.proofs.ElementLemmas.{bind-only, same-read}
 use Rattle.index_format.proofs.BlockOrderLemmas.{all_length, blocks_bits-step, follow-append, logs-joined, object_bits-taken}
 use Rattle.index_format.proofs.BlockOnlyLaws.{object-only}
 
@@ -50,19 +49,18 @@ module _ (frame : Frame) (some : 0 < frame.period) (high : frame.height ≤ MAX_
       → ObjectsOnly frame view objects from n before bits done rest
   unfolding blocks_bits blocks_with_logs all_follow
   objects-only zero from before bits done rest within room read =
-      let both = ok-same (before, bits) (done, rest) (sym (blocks_in-none frame view from before bits) ∙ read) in
-      let same = ap (λ it. it.0) both in
+      let same = same-read before done bits rest (sym (blocks_in-none frame view from before bits) ∙ read) in
       record {
         blocks = [];
         log = [];
-        blocks_are = sym (ap (λ (told : Told). told.blocks) same) ∙ sym (append-nil before.blocks);
-        symbols_are = sym (ap (λ (told : Told). told.symbols) same) ∙ sym (append-nil before.symbols);
+        blocks_are = sym (ap (λ (told : Told). told.blocks) same.0) ∙ sym (append-nil before.blocks);
+        symbols_are = sym (ap (λ (told : Told). told.symbols) same.0) ∙ sym (append-nil before.symbols);
         each = All-nil (IsBlock frame view objects);
         above = All-nil (λ (block : OutlineBlock). from ≤ block.index);
         order = refl;
         long = refl;
-        few = subst (λ (told : Told). length told.symbols ≤ limit_of Symbols) same room;
-        spelled = ap (λ it. it.1) both;
+        few = subst (λ (told : Told). length told.symbols ≤ limit_of Symbols) same.0 room;
+        spelled = same.1;
       }
   objects-only (suc n) from before bits done rest within room read =
       let first = bind-only (object_blocks_in frame view from before bits) (λ object. blocks_in n frame view (suc from) object.0 object.1) (done, rest)
@@ -73,11 +71,10 @@ module _ (frame : Frame) (some : 0 < frame.period) (high : frame.height ≤ MAX_
       (ap (λ from. blocks_in n frame view from first.0.0 first.0.1) (sym up) ∙ first.2) in
       let own = one.blocks in
       let others = on.blocks in
-      let later = All-weaker (λ (block : OutlineBlock). from + 1 ≤ block.index) (λ (block : OutlineBlock). from < block.index)
-      (λ block above. omega (arith, above)) others on.above in
+      let later : All (λ (block : OutlineBlock). from < block.index) others = λ k d within. omega (arith, on.above k d within) in
       let log = one.log ++ on.log in
-      let taken : take (all_length own) log ≡ one.log = ap (λ n. take n log) one.long ∙ take-append_seam one.log on.log in
-      let dropped : drop (all_length own) log ≡ on.log = ap (λ n. drop n log) one.long ∙ drop-append_seam one.log on.log in
+      let taken : take (all_length own) log ≡ one.log = take_at one.log on.log (all_length own) (sym one.long) in
+      let dropped : drop (all_length own) log ≡ on.log = drop_at one.log on.log (all_length own) (sym one.long) in
       record {
         blocks = own ++ others;
         log = log;
@@ -86,8 +83,7 @@ module _ (frame : Frame) (some : 0 < frame.period) (high : frame.height ≤ MAX_
         each = subst (All (IsBlock frame view objects)) (sym (logs-joined own others one.log on.log one.long))
             (All-append (IsBlock frame view objects) (blocks_with_logs own one.log) (blocks_with_logs others on.log) one.each on.each);
         above = All-append (λ (block : OutlineBlock). from ≤ block.index) own others
-            (All-weaker (λ (block : OutlineBlock). block.index ≡ from) (λ (block : OutlineBlock). from ≤ block.index) (λ block is. omega (arith, is)) own one.same)
-            (All-weaker (λ (block : OutlineBlock). from + 1 ≤ block.index) (λ (block : OutlineBlock). from ≤ block.index) (λ block above. omega (arith, above)) others on.above);
+            (λ k d within. omega (arith, one.same k d within)) (λ k d within. omega (arith, on.above k d within));
         order = follow-append from own others one.order one.same on.order later;
         long = sum_by-append (λ (block : OutlineBlock). block.length) own others ∙ omega (arith, one.long, on.long, length-append one.log on.log);
         few = on.few;
