@@ -25,7 +25,7 @@ mod AscentLemmas
 pub mod LayerLaws
 pub mod LayerReadLaws
 mod ReadLemmas
-mod GridLemmas
+pub mod GridLemmas
 mod AlongLemmas
 mod AnchorLemmas
 mod EntryLemmas
@@ -45,4 +45,4 @@ pub mod SettledLaws
 mod SizeLemmas
 mod BlockSizeLemmas
 pub mod SizeLaws
-mod OutlineExamples
+pub mod OutlineExamples

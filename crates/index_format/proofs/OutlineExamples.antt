@@ -29,7 +29,7 @@ use Rattle.index_format.specs.declared.stored.Stored.TheVariants as stored
 use Rattle.index_format.specs.declared.outline.Outline.{Outline}
 
 -- object 7 at (10, 10), (11, 10) and (12, 11), one instant after the other, in one period
-abbrev short : Outline
+abbrev pub short : Outline
 short = record {
   frame = record {
     version = 3;
@@ -72,7 +72,7 @@ unfolding stored_in stored_after outline_after header_at version_at fields_at si
 is_read = refl
 
 -- two objects, one of which stands still between two instants, in two periods, with two rules in two layers
-abbrev long : Outline
+abbrev pub long : Outline
 long = record {
   frame = record {
     version = 3;
