@@ -71,88 +71,89 @@ module _ (outline : Outline) (is : IsOutline outline) (number : ℕ) (below : nu
     pub len : block.len ≡ (told_at k).0.length
     pub log : slice_range (parts_of_outline outline).symbols block.from (block.from + block.len) ≡ (told_at k).1
 
-  -- in a frame like the outline's
-  module _ (frame : Frame) (are : AreOfPeriod frame (length outline.objects) number (heads_of outline is number) (lengths_of outline is number)) where
-    abbrev heads : List Head
-    heads = heads_of outline is number
+  abbrev heads : List Head
+  heads = heads_of outline is number
 
-    abbrev objects : ℕ
-    objects = length outline.objects
+  abbrev lengths : List ℕ
+  lengths = lengths_of outline is number
 
-    -- the snapshot of a period
-    abbrev pub outline_view : SnapshotView
-    outline_view = heads_view frame (length outline.objects) number (heads_of outline is number) (lengths_of outline is number) are
-        (start_in (parts_of_outline outline) number)
+  abbrev objects : ℕ
+  objects = length outline.objects
 
-    long-heads : length heads ≡ length mine-here
-    long-heads = length-map mine-here (λ (it : Logged). head_of outline.frame it.0)
+  abbrev start : ℕ
+  start = start_in (parts_of_outline outline) number
 
-    told-head : (k : ℕ) → k < length mine-here → get_or heads k no_head ≡ head_of outline.frame (told_at k).0
-    told-head k within = get_or-map (λ (it : Logged). head_of outline.frame it.0) mine-here k (no_block, []) no_head within
+  abbrev are : AreOfPeriod outline.frame objects number heads lengths
+  are = are-mine outline is number
 
-    IsTold-head : (k : ℕ) → k < length mine-here →
-        IsTold k (block_at_head frame objects number heads (lengths_of outline is number) are (start_in (parts_of_outline outline) number) k)
-    IsTold-head k within =
-        let head = told-head k within in
-        record {
-          within = within;
-          index = ap (λ (h : Head). h.index) head;
-          offset = ap (λ (h : Head). h.offset) head;
-          cell = ap (λ (h : Head). h.cell) head;
-          len = get_or-map (λ (it : Logged). it.0.length) mine-here k (no_block, []) 0 within;
-          log = slice_range-outline outline is number below k within;
-        }
+  -- the snapshot of a period
+  abbrev pub outline_view : SnapshotView
+  outline_view = heads_view outline.frame (length outline.objects) number (heads_of outline is number) (lengths_of outline is number)
+      (are-mine outline is number) (start_in (parts_of_outline outline) number)
 
-    -- an object has no block, and the outline has none of it; or it has the outline's
-    pub told-cases : (i : ℕ) → i < length outline.objects →
-        ((block_of outline_view i ≡ None) × (filter (λ it. object_in it == i) (mine outline is number) ≡ []))
-        ⊎ ((k : ℕ) × (block : Anchored) × (block_of outline_view i ≡ Some block) × IsTold k block × ((told_at k).0.index ≡ i))
-    told-cases i within = elim (cases_Bool (slice_index_or (presence_of objects heads) i false)) [
-      | inl on ↦
-          let found = block_of-present frame objects number heads (lengths_of outline is number) are
-          (start_in (parts_of_outline outline) number) i within on in
-          let k : ℕ = rank_of (presence_of objects heads) i in
-          let inside : k < length mine-here = omega (arith, found.0, long-heads) in
-          inr (
-            k,
-            block_at_head frame objects number heads (lengths_of outline is number) are (start_in (parts_of_outline outline) number) k,
-            found.2,
-            IsTold-head k inside,
-            sym (ap (λ (h : Head). h.index) (told-head k inside)) ∙ found.1,
-          )
-      | inr off ↦
-          let bit : list_any (λ (head : Head). head.index == i) heads ≡ false =
-          sym (get_or-map-range_with_len (λ index. list_any (λ (head : Head). head.index == index) heads) 0 objects i i false
-          within (omega arith)) ∙ off in
-          inl (
-            block_of-absent frame objects number heads (lengths_of outline is number) are
-                (start_in (parts_of_outline outline) number) i off,
-            filter-no_key object_in mine-here i
-                (sym (list_any-made (λ (it : Logged). head_of outline.frame it.0) (λ (head : Head). head.index == i) mine-here) ∙ bit),
-          )
-    ]
+  long-heads : length heads ≡ length mine-here
+  long-heads = length-map mine-here (λ (it : Logged). head_of outline.frame it.0)
 
-    -- a block that an object has is the outline's
-    pub told-block : (i : ℕ) (block : Anchored) → block_of outline_view i ≡ Some block → (k : ℕ) × IsTold k block
-    told-block i block has = elim (cases_Bool (slice_index_or (presence_of objects heads) i false)) [
-      | inr off ↦
-          absurd (none-some block (sym (block_of-absent frame objects number heads (lengths_of outline is number) are
-          (start_in (parts_of_outline outline) number) i off) ∙ has))
-      | inl on ↦
-          let low = bit-within (presence_of objects heads) i on in
-          let long = length-map-range_with_len (λ index. list_any (λ (head : Head). head.index == index) heads) 0 objects in
-          elim (told-cases i (omega arith)) [
-            | inl none ↦ absurd (none-some block (sym none.0 ∙ has))
-            | inr some ↦ (some.0, subst (IsTold some.0) (same_Some some.1 block (sym some.2 ∙ has)) some.3)
-          ]
-    ]
+  told-head : (k : ℕ) → k < length mine-here → get_or heads k no_head ≡ head_of outline.frame (told_at k).0
+  told-head k within = get_or-map (λ (it : Logged). head_of outline.frame it.0) mine-here k (no_block, []) no_head within
+
+  IsTold-head : (k : ℕ) → k < length mine-here → IsTold k (block_at_head outline.frame objects number heads lengths are start k)
+  IsTold-head k within =
+      let head = told-head k within in
+      record {
+        within = within;
+        index = ap (λ (h : Head). h.index) head;
+        offset = ap (λ (h : Head). h.offset) head;
+        cell = ap (λ (h : Head). h.cell) head;
+        len = get_or-map (λ (it : Logged). it.0.length) mine-here k (no_block, []) 0 within;
+        log = slice_range-outline outline is number below k within;
+      }
+
+  -- an object has no block, and the outline has none of it; or it has the outline's
+  pub told-cases : (i : ℕ) → i < length outline.objects →
+      ((block_of outline_view i ≡ None) × (filter (λ it. object_in it == i) (mine outline is number) ≡ []))
+      ⊎ ((k : ℕ) × (block : Anchored) × (block_of outline_view i ≡ Some block) × IsTold k block × ((told_at k).0.index ≡ i))
+  told-cases i within = elim (cases_Bool (slice_index_or (presence_of objects heads) i false)) [
+    | inl on ↦
+        let found = block_of-present outline.frame objects number heads lengths are start i within on in
+        let k : ℕ = rank_of (presence_of objects heads) i in
+        let inside : k < length mine-here = omega (arith, found.0, long-heads) in
+        inr (
+          k,
+          block_at_head outline.frame objects number heads lengths are start k,
+          found.2,
+          IsTold-head k inside,
+          sym (ap (λ (h : Head). h.index) (told-head k inside)) ∙ found.1,
+        )
+    | inr off ↦
+        let bit : list_any (λ (head : Head). head.index == i) heads ≡ false =
+        sym (get_or-map-range_with_len (λ index. list_any (λ (head : Head). head.index == index) heads) 0 objects i i false
+        within (omega arith)) ∙ off in
+        inl (
+          block_of-absent outline.frame objects number heads lengths are start i off,
+          filter-no_key object_in mine-here i
+              (sym (list_any-made (λ (it : Logged). head_of outline.frame it.0) (λ (head : Head). head.index == i) mine-here) ∙ bit),
+        )
+  ]
+
+  -- a block that an object has is the outline's
+  pub told-block : (i : ℕ) (block : Anchored) → block_of outline_view i ≡ Some block → (k : ℕ) × IsTold k block
+  told-block i block has = elim (cases_Bool (slice_index_or (presence_of objects heads) i false)) [
+    | inr off ↦ absurd (none-some block (sym (block_of-absent outline.frame objects number heads lengths are start i off) ∙ has))
+    | inl on ↦
+        let low = bit-within (presence_of objects heads) i on in
+        let long = length-map-range_with_len (λ index. list_any (λ (head : Head). head.index == index) heads) 0 objects in
+        elim (told-cases i (omega arith)) [
+          | inl none ↦ absurd (none-some block (sym none.0 ∙ has))
+          | inr some ↦ (some.0, subst (IsTold some.0) (same_Some some.1 block (sym some.2 ∙ has)) some.3)
+        ]
+  ]
 
   rising : IsStrictlyIncreasing (map object_in mine-here)
   rising = rising-of_inner object_in period_in number (its outline is) (its-sorted outline is)
 
   -- the snapshot of the period in the outline's parts
-  pub snapshot-outline : snapshot_in (parts_of_outline outline) number
-      ≡ outline_view outline.frame (are-mine outline is number)
+  pub snapshot-outline : snapshot_in (parts_of_outline outline) number ≡ outline_view
   unfolding parts_of_outline
   snapshot-outline =
       ap (view_with outline.frame number (length outline.objects) (start_in (parts_of_outline outline) number))
@@ -175,7 +176,7 @@ module _ (outline : Outline) (is : IsOutline outline) (number : ℕ) (below : nu
   unfolding block_in
   block_in-outline i within =
       ap (λ view. option_to_list (option_map (logged_block (parts_of_outline outline) number) (block_of view i))) snapshot-outline
-      ∙ elim (told-cases outline.frame (are-mine outline is number) i within) [
+      ∙ elim (told-cases i within) [
         | inl none ↦ rw none.0 (sym none.1)
         | inr some ↦
             let k : ℕ = some.0 in

@@ -22,19 +22,16 @@ use Rattle.index_format.specs.OutlineBlocks.{is_in_grid}
 use Rattle.index_format.specs.declared.outline.Outline.{Outline}
 use Rattle.log_bounds.specs.Bounds.{cell_before, duration_of_log}
 use Rattle.snapshots.specs.JoinFlaws.{instants_after}
-use Rattle.snapshots.specs.Parts.{block_log, rules_in, snapshot_in, start_in}
+use Rattle.snapshots.specs.Parts.{block_log, rules_in, snapshot_in}
 use Rattle.snapshots.specs.SoundParts.{AreSoundLogs, IsSoundLog}
-use Rattle.snapshots.specs.View.{all_blocks, block_of, view_with}
+use Rattle.snapshots.specs.View.{all_blocks, block_of}
 use Rattle.snapshots.specs.declared.anchored.Anchored.{Anchored}
-use Rattle.chart_parts.specs.PeriodWith.{period_with}
 use Rattle.chart_parts.proofs.AlongLemmas.{IsAlong, IsInFrame, IsInGridAt-along}
 use Rattle.chart_parts.proofs.LogLemmas.{IsAlong-place}
 use Rattle.outline_parts.specs.PartsOfOutline.{cell_from, parts_of_outline}
-use Rattle.outline_parts.proofs.BlockLemmas.{IsTold, outline_view, told-block, told_at}
-use Rattle.outline_parts.proofs.OutlineLemmas.{Logged, are-mine, each-mine, heads_of, in_grid, its, lengths_of, no_block, object_in, outline_rules, period_in}
+use Rattle.outline_parts.proofs.BlockLemmas.{IsTold, outline_view, snapshot-outline, told-block, told_at}
+use Rattle.outline_parts.proofs.OutlineLemmas.{Logged, each-mine, in_grid, its, no_block, object_in, outline_rules, period_in}
 use Rattle.outline_parts.proofs.PairOrderLemmas.{each-inner}
-use Rattle.outline_parts.proofs.PeriodLemmas.{AreOfPeriod}
-use Rattle.outline_parts.proofs.SymbolLemmas.{period_at-outline}
 
 module _ (outline : Outline) (is : IsOutline outline) where
   abbrev frame : Frame
@@ -58,37 +55,6 @@ module _ (outline : Outline) (is : IsOutline outline) where
   duration_of-outline symbol = refl
 
   module _ (number : ℕ) (below : number < periods_of outline.frame) where
-    -- the blocks of a period
-    pub are-of_period : AreOfPeriod outline.frame (length outline.objects) number (heads_of outline is number)
-        (lengths_of outline is number)
-    are-of_period =
-        let are = are-mine outline is number in
-        record {
-          grid = are.grid;
-          some = are.some;
-          short = are.short;
-          rise = are.rise;
-          below = are.below;
-          inside = are.inside;
-          offsets = are.offsets;
-          same = are.same;
-          short_lengths = are.short_lengths;
-        }
-
-    -- its parts are the same
-    pub period-outline :
-        period_with outline.frame (length outline.objects) (heads_of outline is number) (lengths_of outline is number)
-        ≡ period_with outline.frame (length outline.objects) (heads_of outline is number) (lengths_of outline is number)
-    period-outline = rw is.version refl
-
-    -- the snapshot of the period
-    pub snapshot-outline : snapshot_in (parts_of_outline outline) number
-        ≡ outline_view outline is number below outline.frame are-of_period
-    unfolding parts_of_outline start_in
-    snapshot-outline =
-        ap (view_with frame number (length outline.objects) (start_in (parts_of_outline outline) number))
-        (period_at-outline outline is number below ∙ period-outline)
-
     module _ (k : ℕ) (block : Anchored) (told : IsTold outline is number below k block) where
       abbrev it : Logged
       it = told_at outline is number below k
@@ -150,13 +116,11 @@ module _ (outline : Outline) (is : IsOutline outline) where
       }
 
     -- the logs of a period are sound
-    pub AreSoundLogs-outline :
-        AreSoundLogs (rules_in (parts_of_outline outline))
-        (snapshot_in (parts_of_outline outline) number)
+    pub AreSoundLogs-outline : AreSoundLogs (rules_in (parts_of_outline outline)) (snapshot_in (parts_of_outline outline) number)
     unfolding all_blocks
     AreSoundLogs-outline =
-        subst (AreSoundLogs rules) (sym snapshot-outline)
-        (All-filter_map (IsSoundLog frame rules number) (block_of (outline_view outline is number below frame are-of_period))
+        subst (AreSoundLogs rules) (sym (snapshot-outline outline is number below))
+        (All-filter_map (IsSoundLog frame rules number) (block_of (outline_view outline is number below))
         (range_with_len 0 (length outline.objects)) (λ i block has.
-        let told = told-block outline is number below frame are-of_period i block has in
+        let told = told-block outline is number below i block has in
         IsSoundLog-told told.0 block told.1))

@@ -6,7 +6,7 @@ use Rattle.std.specs.Prelude.{slice_index, slice_index_or, sum}
 use Rattle.std.specs.List.{list_any}
 use Rattle.std.specs.List.Sorted.{IsStrictlyIncreasing}
 use Rattle.std.proofs.lemmas.List.{get_or-map, length-map}
-use Rattle.std.proofs.lemmas.List.Elements.{All-map, All-weaker}
+use Rattle.std.proofs.lemmas.List.Elements.{All-map}
 use Rattle.std.proofs.lemmas.List.FromFn.{length-map-range_with_len}
 use Rattle.packed_bits.specs.Bits.{ones_of}
 use Rattle.packed_bits.proofs.OnesLemmas.{ones_of-le-length}
@@ -113,9 +113,7 @@ module _ (frame : Frame) (objects number : ℕ) (heads : List Head) (lengths : L
         lengths = are.same ∙ sym ones;
         short_offsets = All-map (λ n. n < 2 ^ 32) (λ (head : Head). head.offset) heads
             (λ k d within. let low = are.offsets k d within in let period = are.short in omega arith);
-        short_perm =
-            All-weaker (λ place. place < length codes) (λ place. place < 2 ^ 32)
-            (λ place low. omega (arith, many-codes, few-heads)) (leaf_order codes) (leaf_order-within codes);
+        short_perm = λ k d within. omega (arith, leaf_order-within codes k d within, many-codes, few-heads);
         short_lengths = are.short_lengths;
       }
 

@@ -1,9 +1,9 @@
 -- The parts of an outline are those of an index.
-use Rattle.std.proofs.Common.{All, ◌≡◌, ℕ, ◌+◌, ◌^◌, ◌<◌, ◌≤◌, length, get_or, map}
+use Rattle.std.proofs.Common.{All, ◌≡◌, ℕ, ◌+◌, ◌^◌, ◌<◌, length, get_or, map}
 use Rattle.std.proofs.Common.{None, sym, arith, subst}
 use Rattle.std.specs.Prelude.{nat_lt, slice_index}
 use Rattle.std.proofs.lemmas.Bool.{and_parts, lt-leb, ltb-true}
-use Rattle.std.proofs.lemmas.List.Elements.{All-from_get_or, All-get_or, All-map, All-weaker}
+use Rattle.std.proofs.lemmas.List.Elements.{All-from_get_or, All-get_or, All-map}
 use Rattle.std.proofs.lemmas.List.FromFn.{length-map-range_with_len}
 use Rattle.list_laws.proofs.NumberLemmas.{least_power}
 use Rattle.track_types.specs.Frame.{periods_of}
@@ -23,7 +23,8 @@ use Rattle.snapshots.proofs.SoundPartsLemmas.{AreSoundRules-flawless}
 use Rattle.chart_parts.specs.PeriodWith.{period_of_blocks}
 use Rattle.chart_parts.proofs.RuleLemmas.{value-long}
 use Rattle.outline_parts.specs.PartsOfOutline.{headed, parts_of_outline}
-use Rattle.outline_parts.proofs.LogLemmas.{AreSoundLogs-outline, are-of_period, snapshot-outline}
+use Rattle.outline_parts.proofs.BlockLemmas.{snapshot-outline}
+use Rattle.outline_parts.proofs.LogLemmas.{AreSoundLogs-outline}
 use Rattle.outline_parts.proofs.OutlineLemmas.{are-mine, heads-mine, heads_of, lengths-mine, lengths_of}
 use Rattle.outline_parts.proofs.PeriodLemmas.{IsShapedPeriod-heads, IsSoundPeriod-heads}
 use Rattle.outline_parts.proofs.SymbolLemmas.{All-symbols, length-symbols, total-outline}
@@ -89,8 +90,7 @@ module _ (outline : Outline) (is : IsOutline outline) where
   unfolding width_for
   narrow =
       let fits = least_power 26 known (omega arith) (omega (arith, is.few_values, is.few_rules)) in
-      All-weaker (λ symbol. symbol < known) (λ symbol. symbol < 2 ^ width_for known)
-      (λ symbol below. omega (arith, below, fits.1)) (parts_of_outline outline).symbols known-symbols
+      λ k d within. omega (arith, known-symbols k d within, fits.1)
 
   shaped-periods : All (IsShapedPeriod (length outline.objects)) (parts_of_outline outline).periods
   unfolding parts_of_outline period_of_blocks
@@ -123,9 +123,7 @@ module _ (outline : Outline) (is : IsOutline outline) where
         (periods_of outline.frame);
     each = shaped-periods;
     few_symbols = omega (arith, length-symbols outline is, is.few_symbols);
-    short_symbols =
-        All-weaker (λ symbol. symbol < known) (λ symbol. symbol < 2 ^ 32)
-        (λ symbol low. omega (arith, low, is.few_values, is.few_rules)) (parts_of_outline outline).symbols known-symbols;
+    short_symbols = λ k d within. omega (arith, known-symbols k d within, is.few_values, is.few_rules);
     narrow_symbols = λ new. narrow;
   }
 
@@ -138,7 +136,7 @@ module _ (outline : Outline) (is : IsOutline outline) where
     periods = λ number below.
         subst IsSoundPeriod (sym (snapshot-outline outline is number below))
         (IsSoundPeriod-heads outline.frame (length outline.objects) number (heads_of outline is number)
-        (lengths_of outline is number) (are-of_period outline is number below) (start_in (parts_of_outline outline) number));
+        (lengths_of outline is number) (are-mine outline is number) (start_in (parts_of_outline outline) number));
     logs = λ number below. AreSoundLogs-outline outline is number below;
   }
 
