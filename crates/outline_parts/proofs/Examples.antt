@@ -1,5 +1,5 @@
 -- The definitions, run on the two worked files of version 3.
-use Rattle.std.proofs.Common.{◌≡◌, pos, Bool, true, false, [], ◌∷◌, refl}
+use Rattle.std.proofs.Common.{◌≡◌, Bool, true, false, [], ◌∷◌, refl}
 use Rattle.packed_bits.specs.Bits.{ones_of}
 use Rattle.bit_rank.specs.Bits.{rank_of}
 use Rattle.list_laws.specs.Ordered.{ordered, insert_in_order}
@@ -8,7 +8,7 @@ use Rattle.k2_tree.specs.Tree.{where_set, codes_below, codes_in}
 use Rattle.k2_tree.specs.TreeBits.{level_bits, children_of_prefixes, morton_bits, prefixes}
 use Rattle.k2_tree.specs.Widths.{digits_in, levels_with}
 use Rattle.index_format.specs.IsOutline.{blocks_with_logs}
-use Rattle.index_format.specs.declared.outline.Outline.{Outline}
+use Rattle.index_format.proofs.OutlineExamples.{long, short}
 use Rattle.snapshots.specs.Parts.{start_in}
 use Rattle.track_types.specs.declared.parts.Parts.{Parts}
 use Rattle.chart_parts.specs.LeafOrder.{distinct_codes, ends_of, leaf_codes, leaf_order}
@@ -22,26 +22,7 @@ I = true
 abbrev O : Bool
 O = false
 
--- object 7 at (10, 10), (11, 10) and (12, 11), one instant after the other, in one period
-abbrev short : Outline
-short = record {
-  frame = record {
-    version = 3;
-    first = pos 0;
-    span = 3;
-    period = 4;
-    height = 2;
-    base = record { x = pos 10; y = pos 10 };
-    cell = 1;
-    tick = 1;
-  };
-  objects = 7 ∷ [];
-  alphabet = 2 ∷ 3 ∷ [];
-  rules = [];
-  blocks = record { period = 0; index = 0; offset = 0; cell = record { x = pos 0; y = pos 0 }; length = 2 } ∷ [];
-  symbols = 0 ∷ 1 ∷ [];
-}
-
+-- the parts of the outline of one object
 abbrev short_parts : Parts
 short_parts = record {
   frame = short.frame;
@@ -69,31 +50,7 @@ unfolding outline_of logged_blocks block_in start_in rank_of ones_of codes_in co
     cell_of morton_column morton_row
 short_is_told = refl
 
--- two objects, one of which stands still between two instants, in two periods, with two rules in two layers
-abbrev long : Outline
-long = record {
-  frame = record {
-    version = 3;
-    first = pos 0;
-    span = 8;
-    period = 4;
-    height = 3;
-    base = record { x = pos 10; y = pos 10 };
-    cell = 1;
-    tick = 1;
-  };
-  objects = 7 ∷ 9 ∷ [];
-  alphabet = 0 ∷ 2 ∷ [];
-  rules = (1, 1) ∷ (2, 1) ∷ [];
-  blocks =
-      record { period = 0; index = 0; offset = 0; cell = record { x = pos 0; y = pos 0 }; length = 1 }
-      ∷ record { period = 1; index = 0; offset = 0; cell = record { x = pos 4; y = pos 0 }; length = 1 }
-      ∷ record { period = 0; index = 1; offset = 1; cell = record { x = pos 0; y = pos 2 }; length = 2 }
-      ∷ record { period = 1; index = 1; offset = 2; cell = record { x = pos 0; y = pos 3 }; length = 1 } ∷ [];
-  symbols = 3 ∷ 3 ∷ 0 ∷ 0 ∷ 0 ∷ [];
-}
-
--- the logs stand by period, then object, and in the second period the object that is less stands second in leaf order
+-- and of that of two: the logs stand by period, then object, and in the second period the lesser object stands second in leaf order
 abbrev long_parts : Parts
 long_parts = record {
   frame = long.frame;
