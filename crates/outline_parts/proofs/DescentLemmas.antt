@@ -5,12 +5,13 @@ use Rattle.std.specs.Prelude.{slice_get}
 use Rattle.std.specs.List.{flat_map, range_with_len}
 use Rattle.std.proofs.lemmas.Bool.{cases_lt}
 use Rattle.std.proofs.lemmas.Option.{get_or_from_slice_get}
-use Rattle.std.proofs.lemmas.List.{append-nil, drop-drop, drop_all, drop_more, length-append, length-take, take_more}
+use Rattle.std.proofs.lemmas.List.{append-nil, drop-drop, drop_all, drop_more, length-take, take_more}
 use Rattle.std.proofs.lemmas.List.Concat.{flat_map-append}
 use Rattle.std.proofs.lemmas.List.Elements.{All-cons, All-head, All-nil, All-tail}
 use Rattle.std.proofs.lemmas.List.FromFn.{get_or-range_with_len, length-range_with_len}
 use Rattle.list_laws.proofs.FlatLemmas.{All-flat_map}
 use Rattle.list_laws.proofs.RangeLemmas.{range-parts}
+use Rattle.k2_tree.proofs.LongerLemmas.{length-children_of_prefixes}
 use Rattle.k2_tree.specs.Tree.{codes_below, codes_in, where_set}
 use Rattle.k2_tree.specs.TreeBits.{children_of_prefixes}
 use Rattle.k2_tree.specs.Widths.{fan, fan_of, levels_with}
@@ -110,16 +111,6 @@ children-more size prefixes prefix =
     flat_map-append (λ p. range_with_len (size * p) size) prefixes (prefix ∷ [])
     ∙ ap (λ back. flat_map (λ p. range_with_len (size * p) size) prefixes ++ back) (append-nil (range_with_len (size * prefix) size))
 
--- each prefix has so many children
-pub length-children : (size : ℕ) (prefixes : List ℕ) → length (children_of_prefixes size prefixes) ≡ size * length prefixes
-unfolding children_of_prefixes
-length-children size [] = omega arith
-length-children size (prefix ∷ prefixes) =
-    let rest = length-children size prefixes in
-    let here = length-append (range_with_len (size * prefix) size) (flat_map (λ p. range_with_len (size * p) size) prefixes) in
-    let few = length-range_with_len (size * prefix) size in
-    grind (arith, rest, here, few)
-
 -- children of small prefixes are small
 pub small-children : (size limit : ℕ) (prefixes : List ℕ) → All (λ code. code < limit) prefixes →
     All (λ code. code < size * limit) (children_of_prefixes size prefixes)
@@ -152,7 +143,7 @@ module _ (bits : List Bool) (from size : ℕ) (prefixes : List ℕ) where
       let before : List ℕ = children_of_prefixes size (take i prefixes) in
       let own : List ℕ = range_with_len (size * get_or prefixes i 0) size in
       let count : length before ≡ size * i =
-      length-children size (take i prefixes) ∙ ap (λ n. size * n) (omega (arith, length-take i prefixes)) in
+      length-children_of_prefixes size (take i prefixes) ∙ ap (λ n. size * n) (omega (arith, length-take i prefixes)) in
       ap (λ all. where_set (drop from bits) (children_of_prefixes size all)) (take_more prefixes i 0 within)
       ∙ ap (where_set (drop from bits)) (children-more size (take i prefixes) (get_or prefixes i 0))
       ∙ where_set-append (drop from bits) before own
@@ -176,12 +167,6 @@ pub fan-more : (width digits : ℕ) → fan_of width * fan ^ digits ≡ fan ^ (d
 fan-more width digits =
     let turned : width + digits ≡ digits + width = omega arith in
     sym (pow-add fan width digits) ∙ ap (λ n. fan ^ n) turned
-
--- no bits tell no numbers
-pub codes_in-none : (widths : List ℕ) (bits : List Bool) → length bits ≡ 0 → codes_in widths bits ≡ []
-unfolding codes_in
-codes_in-none widths [] none = refl
-codes_in-none widths (bit ∷ bits) none = absurd (omega arith)
 
 -- some bits tell those below the whole grid
 pub codes_in-some : (widths : List ℕ) (bits : List Bool) → (length bits ≡ 0 → ⊥) → codes_in widths bits ≡ codes_below widths (0 ∷ []) bits

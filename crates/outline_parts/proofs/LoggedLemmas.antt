@@ -1,8 +1,7 @@
 -- Blocks with the symbols of their logs: what is laid side by side, and what was laid end to end.
-use Rattle.std.proofs.Common.{All, ◌≡◌, ℕ, List, [], ◌∷◌, ◌++◌, length, map, take, drop, refl, sym, ap, ◌∙◌, arith}
+use Rattle.std.proofs.Common.{All, ◌≡◌, ℕ, List, [], ◌∷◌, ◌++◌, length, map, take, drop, refl, ap, ◌∙◌, arith}
 use Rattle.std.specs.List.{flat_map, sum_by}
-use Rattle.std.proofs.Math.Seq.{drop-append_seam, take-append_seam}
-use Rattle.std.proofs.lemmas.List.{length-drop, length-take, take-append-drop}
+use Rattle.std.proofs.lemmas.List.{drop_at, length-drop, length-take, take-append-drop, take_at}
 use Rattle.std.proofs.lemmas.List.Elements.{All-head, All-tail}
 use Rattle.std.proofs.lemmas.List.Sums.{sum_by-cons}
 use Rattle.index_format.specs.IsOutline.{blocks_with_logs}
@@ -53,13 +52,8 @@ logged-again [] each = refl
 logged-again (it ∷ its) each =
     let long : length it.1 ≡ it.0.length = All-head (λ one. length one.1 ≡ one.0.length) it its each in
     let rest = flat_map (λ one. one.1) its in
-    let front : take it.0.length (it.1 ++ rest) ≡ it.1 =
-    ap (λ n. take n (it.1 ++ rest)) (sym long) ∙ take-append_seam it.1 rest in
-    let back : drop it.0.length (it.1 ++ rest) ≡ rest =
-    ap (λ n. drop n (it.1 ++ rest)) (sym long) ∙ drop-append_seam it.1 rest in
-    ap (λ log. (it.0, log) ∷ blocks_with_logs (map (λ one. one.0) its) (drop it.0.length (it.1 ++ rest))) front
-    ∙ ap (λ symbols. it ∷ blocks_with_logs (map (λ one. one.0) its) symbols) back
-    ∙ ap (λ all. it ∷ all) (logged-again its (All-tail (λ one. length one.1 ≡ one.0.length) it its each))
+    rw (take_at it.1 rest it.0.length long, drop_at it.1 rest it.0.length long)
+    (ap (λ all. it ∷ all) (logged-again its (All-tail (λ one. length one.1 ≡ one.0.length) it its each)))
 
 -- the logs' lengths add up to the number of symbols
 pub total-logged : (its : List (OutlineBlock × List ℕ)) → All (λ it. length it.1 ≡ it.0.length) its →

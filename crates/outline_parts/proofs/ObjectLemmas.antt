@@ -2,12 +2,12 @@
 use Rattle.std.proofs.Common.{◌≡◌, ℕ, ◌+◌, ◌<◌, true, false, List, [], ◌∷◌, ◌++◌, length, get_or, map, pos, Some, Option}
 use Rattle.std.proofs.Common.{refl, sym, ap, ◌∙◌, append-nil, arith}
 use Rattle.std.specs.Prelude.{slice_get, slice_index, slice_index_or, sum, take}
-use Rattle.std.specs.List.{filter_map, flat_map, range_with_len}
+use Rattle.std.specs.List.{filter_map, range_with_len}
 use Rattle.std.specs.Option.{option_to_list}
 use Rattle.std.proofs.lemmas.List.{map-append}
 use Rattle.std.proofs.lemmas.List.Sums.{sum_by_more}
 use Rattle.list_laws.proofs.OptionLemmas.{append-option}
-use Rattle.list_laws.proofs.RangeLemmas.{filter_map-range_more, flat_map-range_next}
+use Rattle.list_laws.proofs.RangeLemmas.{filter_map-range_more}
 use Rattle.track_types.specs.Frame.{periods_of}
 use Rattle.track_types.specs.declared.parts.Parts.{Parts}
 use Rattle.track_types.specs.declared.period_parts.PeriodParts.{PeriodParts}
@@ -50,12 +50,6 @@ placed_with period index offset cell long start = record {
   block = record { period = period; index = index; offset = offset; cell = cell; length = long };
   start = start;
 }
-
-same-placed : (period index offset other_offset : ℕ) (cell other_cell : Cell) (long other_long start other_start : ℕ) →
-    offset ≡ other_offset → cell ≡ other_cell → long ≡ other_long → start ≡ other_start →
-    placed_with period index offset cell long start ≡ placed_with period index other_offset other_cell other_long other_start
-same-placed period index offset other_offset cell other_cell long other_long start other_start offsets cells longs starts =
-    rw (offsets, cells, longs, starts) refl
 
 module _ (view : SnapshotView) (is : IsSnapshot view) (codes : List ℕ) (are : AreByRank view codes) where
   told : List ℕ
@@ -103,14 +97,9 @@ module _ (view : SnapshotView) (is : IsSnapshot view) (codes : List ℕ) (are : 
         get_or_from_slice_get view.parts.present index true false read in
         let own : ℕ = rank_of view.parts.present index in
         let known = rank-known read in
-        rw on (ap (λ one. one ∷ []) (same-placed view.number index (slice_index view.parts.offsets own) (slice_index view.parts.offsets rank)
-        (cell_in view.frame (slice_index_or (tree_in view).cells (leaf_at view (inverse_of view.parts.perm own)) view.frame.base))
-        (cell_of view.frame.height corner (slice_index codes rank)) (slice_index view.parts.lengths own) (slice_index view.parts.lengths rank)
-        (view.start + sum (take own view.parts.lengths)) start
-        (ap (slice_index view.parts.offsets) (sym ranked))
-        (cell-told own (omega (arith, known, is.shaped.perm)) ∙ ap (λ r. cell_of view.frame.height corner (slice_index codes r)) (sym ranked))
-        (ap (slice_index view.parts.lengths) (sym ranked))
-        (ap (λ r. view.start + sum (take r view.parts.lengths)) (sym ranked) ∙ sym begins)))
+        rw (begins, ranked, on) (ap (λ cell. placed_with view.number index (slice_index view.parts.offsets own) cell
+        (slice_index view.parts.lengths own) (view.start + sum (take own view.parts.lengths)) ∷ [])
+        (cell-told own (omega (arith, known, is.shaped.perm))))
 
 -- what is made of one number more
 pub blocks-more : {X Y : Type 0} (f : X → Y) (make : ℕ → Option X) (n : ℕ) →
@@ -141,8 +130,3 @@ pub period-read : (periods all : List PeriodParts) (period : PeriodParts) (numbe
     period ≡ get_or all number period → period ≡ period_at periods number
 period-read periods all period number same within is =
     is ∙ get_or_default all number period no_period within ∙ ap (λ (xs : List PeriodParts). get_or xs number no_period) same
-
--- the blocks of one period more
-pub periods-more : {X : Type 0} (f : ℕ → List X) (n : ℕ) →
-    flat_map f (range_with_len 0 (n + 1)) ≡ flat_map f (range_with_len 0 n) ++ f n
-periods-more f n = flat_map-range_next f n

@@ -1,8 +1,6 @@
 -- The blocks of an outline with their logs: by object, then period, and those of each period.
 use Rattle.std.proofs.Common.{All, ◌≡◌, ℕ, zero, suc, ◌+◌, ◌^◌, ◌<◌, ◌==◌, Bool, true, pos, List, [], ◌∷◌, length, get_or, map}
 use Rattle.std.proofs.Common.{sym, ap, ◌∙◌, arith, subst}
-use Rattle.std.specs.Prelude.{◌&&◌, ◌-◌}
-use Rattle.std.specs.Int.Signed.{le_z}
 use Rattle.std.specs.List.Sorted.{IsStrictlyIncreasing, IsStrictlySortedBy}
 use Rattle.std.specs.declared.cmp.Ordering.TheVariants.{Less}
 use Rattle.std.proofs.lemmas.Bool.{and_parts}
@@ -25,6 +23,7 @@ use Rattle.index_format.specs.OutlineBlocks.{is_in_grid}
 use Rattle.index_format.specs.OutlineFile.{frame_rules}
 use Rattle.index_format.specs.declared.outline.Outline.{Outline}
 use Rattle.index_format.specs.declared.outline.OutlineBlock.{OutlineBlock}
+use Rattle.index_format.proofs.GridLemmas.{in_grid-bounds}
 use Rattle.snapshots.proofs.SoundLemmas.{IsGrid-frame}
 use Rattle.chart_parts.specs.PeriodWith.{blocks_of_period}
 use Rattle.outline_parts.specs.PartsOfOutline.{cell_from, head_of, headed, logged_in}
@@ -63,18 +62,13 @@ follow-at follows (x ∷ y ∷ xs) d (suc k) follow within =
 pub in_grid : (frame : Frame) (cell : Cell) → is_in_grid frame.height cell ≡ true →
     IsInGrid frame.height frame.base (cell_from frame cell)
 in_grid frame cell inside =
-    let wide : Bool = le_z cell.x (pos (2 ^ frame.height - 1)) in
-    let low : Bool = le_z (pos 0) cell.y in
-    let high : Bool = le_z cell.y (pos (2 ^ frame.height - 1)) in
-    let above = and_parts (le_z (pos 0) cell.x && wide && low) high inside in
-    let below = and_parts (le_z (pos 0) cell.x && wide) low above.0 in
-    let left = and_parts (le_z (pos 0) cell.x) wide below.0 in
+    let is = in_grid-bounds frame.height cell inside in
     let some : 0 < 2 ^ frame.height = pow_pos frame.height in
     record {
-      left = grind (arith, ints, left.0);
-      right = grind (arith, ints, left.0, left.1);
-      below = grind (arith, ints, below.1);
-      above = grind (arith, ints, below.1, above.1);
+      left = omega (arith, ints, is.left);
+      right = omega (arith, ints, is.left, is.right, some);
+      below = omega (arith, ints, is.below);
+      above = omega (arith, ints, is.below, is.above, some);
     }
 
 module _ (outline : Outline) (is : IsOutline outline) where

@@ -23,7 +23,7 @@ use Rattle.index_format.specs.OutlineBlocks.{is_in_grid}
 use Rattle.index_format.specs.OutlineFile.{frame_rules}
 use Rattle.index_format.specs.declared.outline.OutlineBlock.{OutlineBlock}
 use Rattle.log_bounds.specs.Bounds.{duration_of_log}
-use Rattle.snapshots.specs.Parts.{log_in, rules_in}
+use Rattle.snapshots.specs.Parts.{log_in, rules_in, snapshot_in}
 use Rattle.snapshots.specs.Sound.{IsBlock as IsOfSnapshot}
 use Rattle.snapshots.specs.SoundParts.{IsSoundLog, IsValid}
 use Rattle.snapshots.specs.View.{all_blocks, block_of}
@@ -37,7 +37,7 @@ use Rattle.outline_parts.proofs.LoggedLemmas.{logged-again, total-logged}
 use Rattle.outline_parts.proofs.OutlineLemmas.{Logged, object_in, period_in}
 use Rattle.outline_parts.proofs.PairOrderLemmas.{pair_order, pair_parts}
 use Rattle.outline_parts.proofs.PeriodAgainLemmas.{cell-placed}
-use Rattle.outline_parts.proofs.ToldLemmas.{All-told, length-told, told-sorted, told_view, whole-block, whole-told}
+use Rattle.outline_parts.proofs.ToldLemmas.{All-told, length-told, told-sorted, whole-block, whole-told}
 
 -- blocks in order follow each other
 follows-sorted : (its : List Logged) → IsStrictlySortedBy (pair_order object_in period_in) its →
@@ -79,8 +79,8 @@ module _ (parts : Parts) (valid : IsValid parts) (version : parts.frame.version 
   known-symbols = All-from_get_or (λ symbol. symbol < symbols_in rules) parts.symbols 0 valid.sound.rules.symbols
 
   module _ (number i : ℕ) (block : Anchored) (below : number < periods_of parts.frame) (within : i < length parts.objects)
-      (has : block_of (told_view parts valid version number) i ≡ Some block)
-      (is : IsOfSnapshot (told_view parts valid version number) block) (own : block.index ≡ i)
+      (has : block_of (snapshot_in parts number) i ≡ Some block)
+      (is : IsOfSnapshot (snapshot_in parts number) block) (own : block.index ≡ i)
       (whole : length (log_in parts block) ≡ block.len) where
     abbrev log : List ℕ
     log = log_in parts block
@@ -88,9 +88,9 @@ module _ (parts : Parts) (valid : IsValid parts) (version : parts.frame.version 
     sound-log : IsSoundLog parts.frame rules number block
     unfolding all_blocks
     sound-log =
-        All-contains (IsSoundLog parts.frame rules number) (all_blocks (told_view parts valid version number)) block
+        All-contains (IsSoundLog parts.frame rules number) (all_blocks (snapshot_in parts number)) block
         (valid.sound.logs number below)
-        (Contains-filter_map (block_of (told_view parts valid version number)) _ i block
+        (Contains-filter_map (block_of (snapshot_in parts number)) _ i block
         (Contains-range 0 (length parts.objects) i (omega arith) (omega arith)) has)
 
     in-grid : All (λ (cell : Cell). is_in_grid parts.frame.height cell ≡ true)

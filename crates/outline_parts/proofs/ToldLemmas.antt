@@ -18,9 +18,9 @@ use Rattle.object_perm.specs.Permutation.{inverse_of}
 use Rattle.track_types.specs.Frame.{periods_of}
 use Rattle.track_types.specs.declared.parts.Parts.{Parts}
 use Rattle.snapshots.specs.Parts.{log_in, no_period, numbers_in, period_at, rules_in, snapshot_in, start_in, symbols_of}
-use Rattle.snapshots.specs.Sound.{IsBlock, IsSnapshot}
+use Rattle.snapshots.specs.Sound.{IsBlock}
 use Rattle.snapshots.specs.SoundParts.{IsValid}
-use Rattle.snapshots.specs.View.{SnapshotView, all_blocks, block_of, block_with}
+use Rattle.snapshots.specs.View.{all_blocks, block_of, block_with}
 use Rattle.snapshots.specs.declared.anchored.Anchored.{Anchored}
 use Rattle.snapshots.proofs.BlockFactsLemmas.{IsBlock-from_block_of}
 use Rattle.snapshots.proofs.ByObjectLemmas.{index-from_block_of}
@@ -39,37 +39,27 @@ made-from f None y is = absurd (none-some y is)
 made-from f (Some x) y is = (x, refl, same_Some (f x) y is)
 
 module _ (parts : Parts) (valid : IsValid parts) (version : parts.frame.version ≡ 3) where
-  abbrev parts2 : Parts
-  parts2 = parts
-
   abbrev count : ℕ
   count = periods_of parts.frame
 
   abbrev objects : ℕ
   objects = length parts.objects
 
-  -- the snapshot of a period
-  abbrev pub told_view : ℕ → SnapshotView
-  told_view number = snapshot_in parts number
-
-  pub told-snapshot : (number : ℕ) → number < periods_of parts.frame → IsSnapshot (told_view number)
-  told-snapshot number below = IsSnapshot-valid parts2 valid number below
-
   -- a block is the same
   pub block_in-2 : (number i : ℕ) →
-      block_in parts number i ≡ option_map (logged_block parts number) (block_of (told_view number) i)
+      block_in parts number i ≡ option_map (logged_block parts number) (block_of (snapshot_in parts number) i)
   unfolding block_in start_in
   block_in-2 number i = rw version refl
 
   -- what is told of an object in a period is its block
   pub told-from : (number i : ℕ) (it : Logged) → block_in parts number i ≡ Some it →
-      (block : Anchored) × (block_of (told_view number) i ≡ Some block) × (logged_block parts number block ≡ it)
-  told-from number i it is = made-from (logged_block parts number) (block_of (told_view number) i) it (sym (block_in-2 number i) ∙ is)
+      (block : Anchored) × (block_of (snapshot_in parts number) i ≡ Some block) × (logged_block parts number block ≡ it)
+  told-from number i it is = made-from (logged_block parts number) (block_of (snapshot_in parts number) i) it (sym (block_in-2 number i) ∙ is)
 
   outer-is : (number i : ℕ) (it : Logged) → block_in parts number i ≡ Some it → object_in it ≡ i
   outer-is number i it is =
       let from = told-from number i it is in
-      sym (ap object_in from.2) ∙ index-from_block_of (told_view number) i from.0 from.1
+      sym (ap object_in from.2) ∙ index-from_block_of (snapshot_in parts number) i from.0 from.1
 
   inner-is : (number i : ℕ) (it : Logged) → block_in parts number i ≡ Some it → period_in it ≡ number
   inner-is number i it is = sym (ap period_in (told-from number i it is).2)
@@ -81,27 +71,27 @@ module _ (parts : Parts) (valid : IsValid parts) (version : parts.frame.version 
 
   -- what holds of each block of a period holds of all that is told
   pub All-told : (P : Logged → Type 0) → ((number i : ℕ) (block : Anchored) → number < periods_of parts.frame →
-      i < length parts.objects → block_of (told_view number) i ≡ Some block → IsBlock (told_view number) block →
+      i < length parts.objects → block_of (snapshot_in parts number) i ≡ Some block → IsBlock (snapshot_in parts number) block →
       block.index ≡ i → P (logged_block parts number block)) → All P (logged_blocks parts)
   unfolding logged_blocks
   All-told P each =
       All-made_by_keys object_in period_in objects count (block_in parts) outer-is inner-is P (λ number i it below within is.
       let from = told-from number i it is in
       subst P from.2 (each number i from.0 below within from.1
-      (IsBlock-from_block_of (told_view number) (told-snapshot number below) i from.0 from.1)
-      (index-from_block_of (told_view number) i from.0 from.1)))
+      (IsBlock-from_block_of (snapshot_in parts number) (IsSnapshot-valid parts valid number below) i from.0 from.1)
+      (index-from_block_of (snapshot_in parts number) i from.0 from.1)))
 
   -- those of a period, by object
   pub told-in_period : (number : ℕ) → number < periods_of parts.frame →
-      logged_in number (logged_blocks parts) ≡ map (logged_block parts number) (all_blocks (told_view number))
+      logged_in number (logged_blocks parts) ≡ map (logged_block parts number) (all_blocks (snapshot_in parts number))
   unfolding logged_blocks all_blocks
   told-in_period number below =
       made-of_inner object_in period_in objects count (block_in parts) outer-is inner-is number below
       ∙ same-made (range_with_len 0 objects)
-      ∙ filter_map-map (logged_block parts number) (block_of (told_view number)) (range_with_len 0 objects)
+      ∙ filter_map-map (logged_block parts number) (block_of (snapshot_in parts number)) (range_with_len 0 objects)
     where
       same-made : (is : List ℕ) → filter_map (block_in parts number) is
-          ≡ filter_map (λ i. option_map (logged_block parts number) (block_of (told_view number) i)) is
+          ≡ filter_map (λ i. option_map (logged_block parts number) (block_of (snapshot_in parts number) i)) is
       same-made [] = refl
       same-made (i ∷ is) = rw (block_in-2 number i, same-made is) refl
 
@@ -134,20 +124,14 @@ module _ (parts : Parts) (valid : IsValid parts) (version : parts.frame.version 
       let whole : sum_by symbols_of parts.periods ≡ length parts.symbols = sym (ap (sum_by symbols_of) all) ∙ total in
       omega (arith, sum_by-take-le symbols_of parts.periods (number + 1), whole)
 
-  pub start-same : (number : ℕ) → start_in parts number ≡ start_in parts number
-  unfolding start_in
-  start-same number = refl
-
   -- the symbols of a block's log are there
-  pub end-told : (number : ℕ) (block : Anchored) → number < periods_of parts.frame → IsBlock (told_view number) block →
+  pub end-told : (number : ℕ) (block : Anchored) → number < periods_of parts.frame → IsBlock (snapshot_in parts number) block →
       block.from + block.len ≤ length parts.symbols
   end-told number block below is =
-      let to = is.to in
-      let start = start-same number in
-      omega (arith, to, start, start-more number below, start-within number below)
+      omega (arith, is.to, start-more number below, start-within number below)
 
   -- each log is as long as its block says
-  pub whole-block : (number : ℕ) (block : Anchored) → number < periods_of parts.frame → IsBlock (told_view number) block →
+  pub whole-block : (number : ℕ) (block : Anchored) → number < periods_of parts.frame → IsBlock (snapshot_in parts number) block →
       length (log_in parts block) ≡ block.len
   whole-block number block below is = length-block_log (rules_in parts) block (end-told number block below is)
 
@@ -174,7 +158,7 @@ module _ (parts : Parts) (valid : IsValid parts) (version : parts.frame.version 
         let less : sum (take r lengths) ≤ sum (take (r + 1) lengths) = rw shorter at part in
         omega (arith, less)
 
-    log-of : (i r : ℕ) → log_in parts (block_with (told_view number) i r (inverse_of (told_view number).parts.perm r))
+    log-of : (i r : ℕ) → log_in parts (block_with (snapshot_in parts number) i r (inverse_of (snapshot_in parts number).parts.perm r))
         ≡ slice_range parts.symbols (log-from r) (log-from r + slice_index lengths r)
     unfolding start_in log-from
     log-of i r = refl
@@ -184,18 +168,18 @@ module _ (parts : Parts) (valid : IsValid parts) (version : parts.frame.version 
         ≡ slice_range parts.symbols (start_in parts number) (start_in parts (number + 1))
     unfolding log-from
     symbols-in_period =
-        let is = told-snapshot number below in
+        let is = IsSnapshot-valid parts valid number below in
         let many : length lengths ≡ n = is.shaped.lengths in
         let own : ℕ → List ℕ = λ r. slice_range parts.symbols (log-from r) (log-from r + slice_index lengths r) in
-        let logs : map (λ block. log_in parts block) (all_blocks (told_view number)) ≡ map own (range_with_len 0 n) =
-        blocks-by_rank (told_view number) is (λ block. log_in parts block) own (λ i r. log-of i r) in
+        let logs : map (λ block. log_in parts block) (all_blocks (snapshot_in parts number)) ≡ map own (range_with_len 0 n) =
+        blocks-by_rank (snapshot_in parts number) is (λ block. log_in parts block) own (λ i r. log-of i r) in
         let zero_ : log-from 0 ≡ start_in parts number = omega arith in
         let all : take n lengths ≡ lengths = take_all n lengths (omega (arith, many)) in
         let end : log-from n ≡ start_in parts (number + 1) =
         ap (λ xs. start_in parts number + sum xs) all ∙ sym (start-more number below) in
         ap (flat_map (λ (it : Logged). it.1)) (told-in_period number below)
-        ∙ flat_map-map (λ (it : Logged). it.1) (logged_block parts number) (all_blocks (told_view number))
-        ∙ sym (flat_map-map (λ (log : List ℕ). log) (λ block. log_in parts block) (all_blocks (told_view number)))
+        ∙ flat_map-map (λ (it : Logged). it.1) (logged_block parts number) (all_blocks (snapshot_in parts number))
+        ∙ sym (flat_map-map (λ (log : List ℕ). log) (λ block. log_in parts block) (all_blocks (snapshot_in parts number)))
         ∙ ap (flat_map (λ log. log)) logs
         ∙ flat_map-map (λ (log : List ℕ). log) own (range_with_len 0 n)
         ∙ flat_map_alike own (λ r. slice_range parts.symbols (log-from r) (log-from (r + 1))) (range_with_len 0 n)

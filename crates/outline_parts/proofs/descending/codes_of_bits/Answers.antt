@@ -1,7 +1,8 @@
 use Rattle.std.proofs.Common.{◌∙◌, ◌-◌, ◌*◌, ◌++◌, ◌∷◌, [], ap, append-nil, arith, drop, sym}
 use Rattle.k2_tree.specs.Tree.{codes_below}
 use Rattle.k2_tree.specs.Widths.{levels_with, widths_of}
-use Rattle.outline_parts.proofs.DescentLemmas.{codes_in-none, codes_in-some}
+use Rattle.k2_tree.proofs.ToldLemmas.{codes_in-none}
+use Rattle.outline_parts.proofs.DescentLemmas.{codes_in-some}
 use Rattle.outline_parts.proofs.descending.codes_of_bits.Goals as goal
 
 pub returns-then-len-eq0 : goal.returns-then-len-eq0

@@ -8,7 +8,8 @@ use Rattle.snapshots.specs.Sound.{IsSnapshot}
 use Rattle.snapshots.proofs.ReachLemmas.{IsSnapshot-valid}
 use Rattle.outline_parts.specs.Told.{period_view, placed_blocks_of, told_placed}
 use Rattle.outline_parts.specs.declared.opening.PlacedBlock.{PlacedBlock}
-use Rattle.outline_parts.proofs.ObjectLemmas.{period-read, periods-more, start-behind, view-same}
+use Rattle.list_laws.proofs.RangeLemmas.{flat_map-range_next}
+use Rattle.outline_parts.proofs.ObjectLemmas.{period-read, start-behind, view-same}
 use Rattle.outline_parts.proofs.telling.told_blocks.Goals as goal
 
 pub loop-number-init : goal.loop-number-init
@@ -50,7 +51,7 @@ loop-number-preserved c =
           ∙ ap (λ front. front ++ placed_blocks_of (period_view parts.frame number c.loop-number.start c.index-periods-number.result))
           c.loop-number.invariant.placed
           ∙ ap (λ view. flat_map blocks (range_with_len 0 number) ++ placed_blocks_of view) same
-          ∙ sym (periods-more blocks number);
+          ∙ sym (flat_map-range_next blocks number);
     }
 
 pub returns : goal.returns
