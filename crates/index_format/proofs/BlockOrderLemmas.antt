@@ -6,8 +6,8 @@ use Rattle.std.proofs.lemmas.Bool.{and_parts}
 use Rattle.std.proofs.lemmas.Bool.Decides.{nat_tests}
 use Rattle.std.proofs.lemmas.List.Sums.{sum_by-cons}
 use Rattle.std.proofs.lemmas.Bool.{cases_lt}
-use Rattle.std.proofs.lemmas.List.{drop_all, drop_more, take_more, drop-append-le, drop-drop, drop-take, length-drop, take-append-le, take-append-drop, take-take}
-use Rattle.std.proofs.lemmas.List.Elements.{All-push, All-cons, All-head, All-nil, All-tail, filter-append}
+use Rattle.std.proofs.lemmas.List.{drop_all, drop_more, drop-append-le, drop-drop, drop-take, length-drop, take-append-le, take-append-drop, take-take}
+use Rattle.std.proofs.lemmas.List.Elements.{All-cons, All-head, All-nil, All-tail, filter-append}
 use Rattle.list_laws.proofs.FilterLemmas.{filter-all}
 use Rattle.rule_store.specs.View.{RulesView}
 use Rattle.rule_store.specs.declared.entry_table.EntryTable.{EntryTable}
@@ -220,18 +220,6 @@ module _ {table : EntryTable} {frame : Frame} {objects index : ℕ} {rest : List
 pub record IsCounting (index count i : ℕ) (blocks : List OutlineBlock) : Type 0 where
   pub counted : count ≡ i
   pub same : All (λ (block : OutlineBlock). block.index ≡ index) (take count blocks)
-
--- one block more
-pub counting-more : (index count i : ℕ) (blocks : List OutlineBlock) → IsCounting index count i blocks → i < length blocks
-    → (get_or blocks i no_block).index ≡ index → IsCounting index (count + 1) (i + 1) blocks
-counting-more index count i blocks counting under is = record {
-  counted = omega (arith, counting.counted);
-  same =
-      let under : count < length blocks = omega (arith, counting.counted, under) in
-      subst (All (λ (block : OutlineBlock). block.index ≡ index)) (sym (take_more blocks count no_block under))
-      (All-push (λ (block : OutlineBlock). block.index ≡ index) (take count blocks) (get_or blocks count no_block) counting.same
-      (ap (λ i. (get_or blocks i no_block).index) counting.counted ∙ is));
-}
 
 -- blocks of one object, and those of later ones behind them
 pub record AreParted (from : ℕ) (blocks : List OutlineBlock) : Type 0 where

@@ -78,10 +78,6 @@ pub record IsPuttingLog (table : EntryTable) (height i : ℕ) (cell : Cell) (bit
 
 module _ {table : EntryTable} {height i : ℕ} {cell : Cell} {bits : List Bool} {start : Cell} {log : List ℕ} {before : List Bool}
     (putting : IsPuttingLog table height i cell bits start log before) where
-  -- the cell is in the grid
-  pub putting_log-inside : is_in_grid height cell ≡ true
-  putting_log-inside = putting.some.2.begins
-
   -- all symbols were put
   pub putting_log-cell : length log ≤ i → (view : RulesView) → IsWholeTable view table → cell ≡ cell_after view start log
   putting_log-cell over view known =
@@ -95,15 +91,6 @@ module _ {table : EntryTable} {height i : ℕ} {cell : Cell} {bits : List Bool} 
   module _ (under : i < length log) where
     split : drop i log ≡ get_or log i 0 ∷ drop (i + 1) log
     split = drop_more log i 0 under
-
-    -- the next symbol is one of the rules
-    pub putting_log-known : (view : RulesView) × IsWholeTable view table × (get_or log i 0 < symbols_in view)
-    putting_log-known = (
-      putting.some.0,
-      putting.some.1,
-      log_from-known height putting.some.0 cell (get_or log i 0) (drop (i + 1) log)
-          (subst (IsLogFrom height putting.some.0 cell) split putting.some.2),
-    )
 
     -- one symbol more
     pub putting_log-more : (next : Cell) (after : List Bool)
@@ -164,10 +151,6 @@ module _ {table : EntryTable} {frame : Frame} {i next : ℕ} {last : Option Cell
   putting_object-bits over after is view known =
       is ∙ ap (λ end. bits ++ end) (sym (object_bits-nil frame view next last rest))
       ∙ ap (λ blocks. bits ++ object_bits frame view next last blocks rest) (sym (drop_all i blocks over)) ∙ putting.joined view known
-
-  pub putting_object-left : length blocks ≤ i → rest ≡ drop (sum_by (λ (block : OutlineBlock). block.length) blocks) log
-  putting_object-left over =
-      ap (λ blocks. drop (sum_by (λ (block : OutlineBlock). block.length) blocks) rest) (sym (drop_all i blocks over)) ∙ putting.left
 
   module _ (d : OutlineBlock) (under : i < length blocks) where
     parts : drop i blocks ≡ get_or blocks i d ∷ drop (i + 1) blocks

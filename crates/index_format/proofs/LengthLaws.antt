@@ -1,21 +1,17 @@
 -- How many bytes the parts of an index take.
 use Rattle.std.proofs.Common.{◌≡◌, ℕ, ◌+◌, ◌*◌, ◌≤◌, List, length, refl, ap, ◌∙◌, inl, inr, arith}
 use Rattle.std.specs.Prelude.{nat_lt, if◌then◌else◌}
-use Rattle.std.proofs.Math.Nat.{mul-le-mul_right}
 use Rattle.std.proofs.lemmas.Bool.{cases_lt, lt-ltb, le-ltb}
-use Rattle.std.specs.List.{All, flat_map}
+use Rattle.std.specs.List.{flat_map}
 use Rattle.std.proofs.lemmas.List.{length-append}
-use Rattle.std.proofs.lemmas.List.Elements.{All-weaker}
-use Rattle.packed_bits.proofs.OnesLemmas.{ones_of-le-length}
-use Rattle.list_laws.proofs.LengthLemmas.{length-flat_map-alike, length-flat_map-within}
-use Rattle.track_types.specs.PartsForm.{IsShapedPeriod, width_for, symbol_width}
+use Rattle.list_laws.proofs.LengthLemmas.{length-flat_map-alike}
+use Rattle.track_types.specs.PartsForm.{symbol_width}
 use Rattle.track_types.specs.declared.parts.Parts.{Parts}
 use Rattle.track_types.specs.declared.period_parts.PeriodParts.{PeriodParts}
 use Rattle.index_format.specs.declared.header.Header.{Header}
 use Rattle.index_format.specs.Spelling.{bits_with, bytes_for, bytes_of_parts, header_bytes, log_bytes, long_bytes, parts_bytes}
 use Rattle.index_format.specs.Spelling.{fields_bytes, period_bytes, rule_bytes, says_symbols, short_bytes, signed_bytes, size_bytes, symbols_bytes}
 use Rattle.index_format.proofs.BitLemmas.{length-bit_bytes}
-use Rattle.index_format.proofs.WidthLemmas.{width_for-narrow}
 use Rattle.index_format.proofs.SymbolLemmas.{length-bits_with}
 use Rattle.index_format.proofs.Laws.{wide32, wide64}
 
@@ -52,13 +48,6 @@ length-header_bytes header = elim (cases_lt header.frame.version 3) [
 pub header_length-parts : (version : ℕ) → version ≤ 2 → header_length version ≡ 76
 header_length-parts version old = rw (lt-ltb version 3 (omega (arith, old))) refl
 
--- at most as many as those of version 1
-header_length-short : (version : ℕ) → header_length version ≤ 76
-header_length-short version = elim (cases_lt version 3) [
-  | inl before ↦ rw (lt-ltb version 3 before) (omega arith)
-  | inr later ↦ rw (le-ltb version 3 later) (omega arith)
-]
-
 -- how many bytes a period takes
 abbrev pub period_length : PeriodParts → ℕ
 period_length period =
@@ -89,15 +78,6 @@ length-log_bytes version width symbols = elim (cases_lt version 2) [
   | inr later ↦ rw (le-ltb version 2 later) (length-bit_bytes (bits_with width symbols) ∙ ap bytes_for (length-bits_with width symbols))
 ]
 
--- in every version a symbol takes at most four bytes
-log_length-short : (version symbols count : ℕ) → log_length version (width_for symbols) count ≤ 4 * count
-log_length-short version symbols count = elim (cases_lt version 2) [
-  | inl first ↦ rw (lt-ltb version 2 first) (omega arith)
-  | inr later ↦
-      let most : width_for symbols * count ≤ 27 * count = mul-le-mul_right count (width_for-narrow symbols) in
-      rw (le-ltb version 2 later) (omega (arith, most))
-]
-
 -- how many bytes the parts take
 pub length-bytes_of_parts : (parts : Parts)
     → length (bytes_of_parts parts)
@@ -113,38 +93,3 @@ length-bytes_of_parts parts = simp (
   length-rules,
   length-log_bytes,
 ) (omega arith)
-
--- a period whose tree has at most 144 bits for each object
-abbrev pub IsShallow : ℕ → PeriodParts → Type 0
-IsShallow objects period = IsShapedPeriod objects period × (length period.tree ≤ 144 * objects)
-
--- it takes at most 37 bytes for each
-length-period_bytes-few : (objects : ℕ) → 1 ≤ objects → (period : PeriodParts) → IsShallow objects period →
-    length (period_bytes period) ≤ 37 * objects
-length-period_bytes-few objects some period (shaped, few) =
-    omega (
-      arith,
-      ones_of-le-length period.present,
-      length-period_bytes period,
-      shaped.presence,
-      shaped.offsets,
-      shaped.lasts,
-      shaped.perm,
-      shaped.lengths,
-    )
-
--- how many bytes the parts take at most, in every version, where no tree is deep for so many objects
-pub length-bytes_of_parts-few : (parts : Parts) (objects : ℕ) → 1 ≤ objects → All (IsShallow objects) parts.periods →
-    length (bytes_of_parts parts)
-    ≤ 76 + 4 * length parts.objects + 8 * length parts.alphabet + 8 * length parts.rules
-    + 37 * objects * length parts.periods + 4 * length parts.symbols
-length-bytes_of_parts-few parts objects some shallow =
-    omega (
-      arith,
-      length-bytes_of_parts parts,
-      header_length-short parts.frame.version,
-      log_length-short parts.frame.version (length parts.alphabet + length parts.rules) (length parts.symbols),
-      length-flat_map-within period_bytes (37 * objects) parts.periods
-          (All-weaker (IsShallow objects) (λ period. length (period_bytes period) ≤ 37 * objects)
-          (length-period_bytes-few objects some) parts.periods shallow),
-    )
