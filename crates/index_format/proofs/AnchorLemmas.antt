@@ -1,5 +1,5 @@
 -- Blocks, read step by step.
-use Rattle.std.proofs.Common.{◌≡◌, ℕ, ◌+◌, ◌-◌, ◌<◌, ◌≤◌, ◌/◌, pos, true, false, ◌&&◌, nat_le, eqb, Bool, List, None, Some, Ok, Err, refl, sym, ap, arith}
+use Rattle.std.proofs.Common.{◌≡◌, ℕ, ◌+◌, ◌-◌, ◌<◌, ◌≤◌, ◌/◌, pos, true, false, Bool, List, None, Some, Ok, Err, refl, arith}
 use Rattle.std.proofs.lemmas.Bool.Decides.{nat_tests}
 use Rattle.rule_store.specs.Cells.{cell_with, moved}
 use Rattle.spiral_code.specs.Spiral.{move_of}
@@ -76,17 +76,10 @@ module _ (frame : Frame) (index next : ℕ) (bits : List Bool) where
     pub next_anchor_in-late : 2 ≤ gap → frame.span ≤ next + gap - 1
         → next_anchor_in frame index next bits ≡ Err (flaw_at Gaps (next / frame.period) index Offset)
     unfolding next_anchor_in
-    next_anchor_in-late some late =
-        let not_one : eqb gap 1 ≡ false = grind (arith, nat_tests, some) in
-        let two : nat_le 2 gap ≡ true = grind (arith, nat_tests, some) in
-        let over : nat_le frame.span (next + gap - 1) ≡ true = grind (arith, nat_tests, late) in
-        rw (told, not_one, two, over) refl
+    next_anchor_in-late some late = rw told (grind (arith, nat_tests, some, late))
 
     -- a further block
     pub next_anchor_in-some : (at : ℕ) → next < frame.span → (gap ≡ 1 → ⊥) → at ≡ next + (gap - 1) → at < frame.span
         → next_anchor_in frame index next bits ≡ Ok (Some at, rest)
     unfolding next_anchor_in
-    next_anchor_in-some at inside more at_is within =
-        let not_one : eqb gap 1 ≡ false = grind (arith, nat_tests, more) in
-        let over : (nat_le 2 gap && nat_le frame.span (next + gap - 1)) ≡ false = grind (arith, nat_tests, inside, at_is, within) in
-        rw (told, not_one, over) (ap (λ at. Ok (Some at, rest)) (sym at_is))
+    next_anchor_in-some at inside more at_is within = rw (told, at_is) (grind (arith, nat_tests, inside, more, at_is, within))

@@ -1,5 +1,5 @@
 -- Blocks of an object, read one after the other.
-use Rattle.std.proofs.Common.{◌≡◌, ◌⊎◌, ℕ, zero, suc, ◌+◌, ◌-◌, ◌*◌, ◌<◌, ◌≤◌, ◌/◌, true, false, ◌&&◌, nat_le, nat_lt, eqb, Bool, List, [], ◌∷◌, ◌++◌, length, Option, None, Some, Ok, Err, inl, inr, refl, sym, ap, ◌∙◌, arith}
+use Rattle.std.proofs.Common.{◌≡◌, ◌⊎◌, ℕ, zero, suc, ◌+◌, ◌-◌, ◌*◌, ◌<◌, ◌≤◌, ◌/◌, false, ◌&&◌, nat_le, eqb, Bool, List, [], ◌∷◌, ◌++◌, length, Option, None, Some, Ok, Err, inl, inr, refl, sym, ap, ◌∙◌, arith}
 use Rattle.std.proofs.lemmas.Bool.{cases_Bool}
 use Rattle.std.proofs.lemmas.Bool.Decides.{nat_tests}
 use Rattle.rule_store.specs.declared.entry_table.EntryTable.{EntryTable}
@@ -78,9 +78,7 @@ module _ (frame : Frame) (view : RulesView) (index : ℕ) (told : Told) (bits : 
   pub further_in-told : (most : ℕ) → frame.span ≤ told.next → further_in most frame view index told bits ≡ Ok (told, bits)
   unfolding further_in
   further_in-told zero over = refl
-  further_in-told (suc more) over =
-      let test : nat_le frame.span told.next ≡ true = grind (arith, nat_tests, over) in
-      rw test refl
+  further_in-told (suc more) over = grind (arith, nat_tests, over)
 
   -- no blocks more
   pub further_in-none : further_in 0 frame view index told bits ≡ Ok (told, bits)
@@ -120,26 +118,18 @@ module _ (frame : Frame) (view : RulesView) (index : ℕ) (before : Told) (bits 
     -- it is above the span
     pub object_blocks_in-late : frame.span < start → object_blocks_in frame view index before bits ≡ Err (flaw_at Starts 0 index Offset)
     unfolding object_blocks_in
-    object_blocks_in-late late =
-        let test : nat_lt frame.span start ≡ true = grind (arith, nat_tests, late) in
-        rw (told, test) refl
+    object_blocks_in-late late = rw told (grind (arith, nat_tests, late))
 
     -- there is no block
     pub object_blocks_in-none : start ≡ frame.span → object_blocks_in frame view index before bits ≡ Ok (object_begun before, rest)
     unfolding object_blocks_in
-    object_blocks_in-none none =
-        let test : nat_lt frame.span start ≡ false = grind (arith, nat_tests, none) in
-        let same : eqb start frame.span ≡ true = grind (arith, nat_tests, none) in
-        rw (told, test, same) refl
+    object_blocks_in-none none = rw told (grind (arith, nat_tests, none))
 
     -- a first block, and further ones
     pub object_blocks_in-some : start < frame.span → object_blocks_in frame view index before bits
         ≡ block_in frame view index (object_begun before) start rest >>= (λ block. further_in frame.span frame view index block.0 block.1)
     unfolding object_blocks_in
-    object_blocks_in-some some =
-        let test : nat_lt frame.span start ≡ false = grind (arith, nat_tests, some) in
-        let other : eqb start frame.span ≡ false = grind (arith, nat_tests, some) in
-        rw (told, test, other) refl
+    object_blocks_in-some some = rw told (grind (arith, nat_tests, some))
 
     module _ (some : start < frame.span) where
       -- the first block could not be read

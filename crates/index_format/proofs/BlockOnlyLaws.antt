@@ -294,17 +294,11 @@ module _ (frame : Frame) (some : 0 < frame.period) (high : frame.height ≤ MAX_
   -- the end of an object's blocks
   end_is-none : (next : ℕ) → 0 < next → next < frame.span → end_bits frame next ≡ number_bits 1
   unfolding end_bits
-  end_is-none next begun under =
-      let first : eqb next 0 ≡ false = grind (arith, nat_tests, begun) in
-      let test : nat_lt next frame.span ≡ true = grind (arith, nat_tests, under) in
-      rw (first, test) refl
+  end_is-none next begun under = grind (arith, nat_tests, begun, under)
 
   end_is-told : (next : ℕ) → 0 < next → frame.span ≤ next → end_bits frame next ≡ []
   unfolding end_bits
-  end_is-told next begun over =
-      let first : eqb next 0 ≡ false = grind (arith, nat_tests, begun) in
-      let test : nat_lt next frame.span ≡ false = grind (arith, nat_tests, over) in
-      rw (first, test) refl
+  end_is-told next begun over = grind (arith, nat_tests, begun, over)
 
   -- nothing more was read
   further_ended : (told : Told) (bits : List Bool) (done : Told) (rest : List Bool) → 0 < told.next → frame.span ≤ told.next

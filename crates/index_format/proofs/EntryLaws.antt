@@ -89,9 +89,7 @@ module _ (frame : Frame) (view : RulesView) (lasting : AreLasting view) (period 
       ≡ Ok (log_with (symbols ++ log) (record { rest = 0; cell = cell_after view cell log }), rest)
   log-again [] cell symbols left most rest from fills enough room =
       log_in-filled frame view period (log_with symbols (record { rest = left; cell = cell })) rest most (sym fills)
-      ∙ ap (λ left. Ok (log_with symbols (record { rest = left; cell = cell }), rest)) (sym fills)
-      ∙ ap (λ symbols. Ok (log_with symbols (record { rest = 0; cell = cell }), rest)) (sym (append-nil symbols))
-      ∙ ap (λ cell. Ok (log_with (symbols ++ []) (record { rest = 0; cell = cell }), rest)) (sym (cell_after-nil view cell))
+      ∙ rw (← fills, append-nil symbols, cell_after-nil view cell) refl
   log-again (symbol ∷ log) cell symbols left zero rest from fills enough room =
       let known = log_from-known frame.height view cell symbol log from in
       let some = lasting.each symbol known in

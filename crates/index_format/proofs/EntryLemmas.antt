@@ -1,5 +1,5 @@
 -- Entries of a log, read one after the other.
-use Rattle.std.proofs.Common.{◌≡◌, ℕ, zero, suc, ◌+◌, ◌-◌, ◌<◌, ◌≤◌, true, false, nat_le, nat_lt, eqb, Bool, List, [], ◌∷◌, ◌++◌, length, Result, Ok, Err, inl, inr, refl, sym, ap, ◌∙◌, arith}
+use Rattle.std.proofs.Common.{◌≡◌, ℕ, zero, suc, ◌+◌, ◌-◌, ◌<◌, ◌≤◌, true, false, nat_le, nat_lt, Bool, List, [], ◌∷◌, ◌++◌, length, Result, Ok, Err, inl, inr, refl, sym, ap, ◌∙◌, arith}
 use Rattle.std.proofs.lemmas.Bool.{cases_Bool}
 use Rattle.std.proofs.lemmas.Bool.Decides.{nat_tests}
 use Rattle.rule_store.specs.Cells.{moved}
@@ -44,33 +44,25 @@ module _ (height : ℕ) (log : LogRest) (entry : Entry) where
   -- one that lasts too long
   pub log_past-long : stays_in height log.cell entry.hull ≡ true → log.rest < entry.duration → log_past height log entry ≡ Err Duration
   unfolding log_past
-  log_past-long stays long =
-      let test : nat_lt log.rest entry.duration ≡ true = grind (arith, nat_tests, long) in
-      rw (stays, test) refl
+  log_past-long stays long = grind (arith, nat_tests, stays, long)
 
   -- one that fits
   pub log_past-fits : stays_in height log.cell entry.hull ≡ true → entry.duration ≤ log.rest
       → log_past height log entry ≡ Ok (log_moved log entry)
   unfolding log_past
-  log_past-fits stays fits =
-      let test : nat_lt log.rest entry.duration ≡ false = grind (arith, nat_tests, fits) in
-      rw (stays, test) refl
+  log_past-fits stays fits = grind (arith, nat_tests, stays, fits)
 
 module _ (height : ℕ) (view : RulesView) (log : LogRest) (symbol : ℕ) where
   -- a symbol that is none of the rules
   pub log_after-unknown : symbols_in view ≤ symbol → log_after height view log symbol ≡ Err Symbol
   unfolding log_after
-  log_after-unknown over =
-      let test : nat_le (symbols_in view) symbol ≡ true = grind (arith, nat_tests, over) in
-      rw test refl
+  log_after-unknown over = grind (arith, nat_tests, over)
 
   -- and one that is
   pub log_after-known : (entry : Entry) → entry ≡ entry_of view symbol → symbol < symbols_in view
       → log_after height view log symbol ≡ log_past height log entry
   unfolding log_after
-  log_after-known entry is known =
-      let test : nat_le (symbols_in view) symbol ≡ false = grind (arith, nat_tests, known) in
-      rw test (ap (log_past height log) (sym is))
+  log_after-known entry is known = grind (arith, nat_tests, is, known)
 
 -- what reading a symbol comes to, by where the symbol leads
 abbrev pub entry_read : ℕ → List ℕ → ℕ → List Bool → Result LogRest Kind → Element InLog
@@ -82,9 +74,7 @@ module _ (frame : Frame) (view : RulesView) (period : ℕ) (log : LogRest) (symb
   pub entry_in-full : limit_of Symbols ≤ length symbols
       → entry_in frame view period (log_with symbols log) bits ≡ Err (flaw_at Log period (length symbols) Total)
   unfolding entry_in
-  entry_in-full many =
-      let test : nat_le (limit_of Symbols) (length symbols) ≡ true = grind (arith, nat_tests, many) in
-      rw test refl
+  entry_in-full many = grind (arith, nat_tests, many)
 
   module _ (few : length symbols < limit_of Symbols) where
     room : nat_le (limit_of Symbols) (length symbols) ≡ false
@@ -119,9 +109,7 @@ module _ (frame : Frame) (view : RulesView) (period : ℕ) (log : InLog) (bits :
   pub log_in-filled : (most : ℕ) → log.rest ≡ 0 → log_in most frame view period log bits ≡ Ok (log, bits)
   unfolding log_in
   log_in-filled zero none = refl
-  log_in-filled (suc more) none =
-      let test : eqb log.rest 0 ≡ true = grind (arith, nat_tests, none) in
-      rw test refl
+  log_in-filled (suc more) none = grind (arith, nat_tests, none)
 
   -- no entries more
   pub log_in-none : log_in 0 frame view period log bits ≡ Ok (log, bits)
@@ -132,9 +120,7 @@ module _ (frame : Frame) (view : RulesView) (period : ℕ) (log : InLog) (bits :
   pub log_in-more : (more : ℕ) → 0 < log.rest → log_in (suc more) frame view period log bits
       ≡ entry_in frame view period log bits >>= (λ entry. log_in more frame view period entry.0 entry.1)
   unfolding log_in
-  log_in-more more some =
-      let test : eqb log.rest 0 ≡ false = grind (arith, nat_tests, some) in
-      rw test refl
+  log_in-more more some = grind (arith, nat_tests, some)
 
 -- entries were read, and what is left to read gives what the whole does
 pub record AreEntriesRead (table : EntryTable) (frame : Frame) (period count i : ℕ) (symbols : List ℕ) (log : LogRest) (bits : List Bool)

@@ -1,7 +1,6 @@
 -- Items one after the other, as a loop reads them.
-use Rattle.std.proofs.Common.{◌≡◌, ℕ, suc, ◌+◌, ◌-◌, ◌<◌, ◌≤◌, true, false, List, [], ◌∷◌, ◌++◌, length, get_or, eqb, ◌⊎◌, inl, inr, Result, Ok, Err, refl, sym, ap, ◌∙◌, arith}
+use Rattle.std.proofs.Common.{◌≡◌, ℕ, suc, ◌+◌, ◌-◌, ◌<◌, ◌≤◌, true, false, List, [], ◌∷◌, ◌++◌, length, get_or, ◌⊎◌, inl, inr, Result, Ok, Err, refl, sym, ap, ◌∙◌, arith}
 use Rattle.std.specs.Int.{Width, w32}
-use Rattle.std.proofs.lemmas.Bool.{lt-ltb, le-ltb}
 use Rattle.std.proofs.lemmas.Grind.{get_or_default_zero}
 use Rattle.std.proofs.lemmas.Bool.Decides.{nat_tests}
 use Rattle.std.proofs.lemmas.List.{length-append}
@@ -64,25 +63,21 @@ short_at-number section period i seen bytes missing long is =
 module _ (seen : List ℕ) (n i : ℕ) (long : length seen ≡ i) where
   -- a first number rises
   rises-first : i ≤ 0 → rises seen n ≡ true
-  rises-first first = let none : length seen ≡ 0 = omega arith in rw none refl
+  rises-first first = grind (arith, nat_tests, long, first)
 
   -- one above the last rises
   rises-above : (last : ℕ) → 0 < i → last ≡ get_or seen (i - 1) last → last < n → rises seen n ≡ true
   rises-above last some is above =
       let zero_default : last ≡ get_or seen (length seen - 1) 0 =
       is ∙ get_or_default_zero seen (i - 1) last (omega arith) ∙ ap (λ k. get_or seen (k - 1) 0) (sym long) in
-      let test = lt-ltb (get_or seen (length seen - 1) 0) n (omega arith) in
-      let more : eqb (length seen) 0 ≡ false = grind (arith, nat_tests) in
-      rw (more, test) refl
+      grind (arith, nat_tests, zero_default, long, some, above)
 
   -- one that is not above the last falls
   rises-below : (last : ℕ) → 0 < i → last ≡ get_or seen (i - 1) last → n ≤ last → rises seen n ≡ false
   rises-below last some is below =
       let zero_default : last ≡ get_or seen (length seen - 1) 0 =
       is ∙ get_or_default_zero seen (i - 1) last (omega arith) ∙ ap (λ k. get_or seen (k - 1) 0) (sym long) in
-      let test = le-ltb (get_or seen (length seen - 1) 0) n (omega arith) in
-      let more : eqb (length seen) 0 ≡ false = grind (arith, nat_tests) in
-      rw (more, test) refl
+      grind (arith, nat_tests, zero_default, long, some, below)
 
 module _ (w : Width) (section : Section) (i : ℕ) (seen bytes : List ℕ) (missing : Flaw) (long : length seen ≡ i) (is : missing ≡ flaw_at section 0 i Short) where
   -- the flaw of a number, as the list's length tells it

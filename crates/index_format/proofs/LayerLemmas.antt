@@ -1,8 +1,8 @@
 -- Rules of a layer, as they are read one after the other.
-use Rattle.std.proofs.Common.{◌≡◌, ℕ, zero, suc, ◌+◌, ◌-◌, ◌<◌, ◌≤◌, true, false, Bool, eqb, nat_lt, Option, Some, None, Result, Ok, Err, List, [], ◌∷◌, ◌++◌, length, refl, sym, ap, ◌∙◌, inl, inr, arith}
+use Rattle.std.proofs.Common.{◌≡◌, ℕ, zero, suc, ◌+◌, ◌-◌, ◌<◌, ◌≤◌, true, false, Bool, eqb, nat_lt, Option, Some, None, Result, Ok, Err, List, [], ◌∷◌, ◌++◌, length, refl, sym, ap, ◌∙◌, arith}
 use Rattle.std.specs.Prelude.{if◌then◌else◌}
 use Rattle.std.proofs.Math.Seq.{get_or-append_seam}
-use Rattle.std.proofs.lemmas.Bool.{cases_lt, lt-ltb, le-ltb}
+use Rattle.std.proofs.lemmas.Bool.{lt-ltb, le-ltb}
 use Rattle.std.proofs.lemmas.Bool.Decides.{nat_tests}
 use Rattle.std.proofs.lemmas.List.{length-append}
 use Rattle.rule_store.specs.View.{RulesView}
@@ -33,18 +33,7 @@ next_rule view seen rule table known = record {
 }
 
 module _ (view : RulesView) (top left right : ℕ) (seen : List (ℕ × ℕ)) where
-  -- a part is no symbol of the layers below
-  pub flawed_under-left : top ≤ left → is_flawed_under view top seen (left, right) ≡ true
-  flawed_under-left over = rw (le-ltb left top over) refl
-
-  -- or the other is none
-  pub flawed_under-right : top ≤ right → is_flawed_under view top seen (left, right) ≡ true
-  flawed_under-right over = elim (cases_lt left top) [
-    | inl under ↦ rw (lt-ltb left top under, le-ltb right top over) refl
-    | inr over ↦ flawed_under-left over
-  ]
-
-  -- both are
+  -- a rule of which both parts are symbols of the layers below
   pub flawed_under-both : left < top → right < top
       → is_flawed_under view top seen (left, right) ≡ is_rule_flawed (with_rules view (seen ++ (left, right) ∷ [])) (length seen)
   flawed_under-both left_under right_under = rw (lt-ltb left top left_under, lt-ltb right top right_under) refl

@@ -20,7 +20,7 @@ use Rattle.index_format.specs.OutlineLists.{told_bits}
 use Rattle.index_format.specs.OutlineRules.{is_flawed_under, layer_floor, layer_rule_in, layers_in, least_left, least_right, rule_before, rule_numbers, rules_bits, rules_in, with_rules}
 use Rattle.index_format.specs.LayerLists.{IsLayer, AreLayers, rules_of, layers_bits}
 use Rattle.index_format.proofs.ElementLemmas.{bind-only, else-only, same-read, told_at-only}
-use Rattle.index_format.proofs.LayerLemmas.{flawed_under-left, flawed_under-right, flawed_under-both, rule_before-more, rule_before-none}
+use Rattle.index_format.proofs.LayerLemmas.{flawed_under-both, rule_before-more, rule_before-none}
 use Rattle.index_format.proofs.LayerBits.{rules_bits-layers}
 use Rattle.index_format.proofs.LayerLaws.{AreSound, flawed-longer, split-layer}
 use Rattle.index_format.proofs.OrderLemmas.{layers-in_order}
@@ -37,13 +37,7 @@ pub record IsReadRule (view : RulesView) (base top : ℕ) (before : Option (ℕ 
 module _ (view : RulesView) (base top : ℕ) where
   -- a rule that is not flawed has both parts under it
   under_of : (seen : List (ℕ × ℕ)) (left right : ℕ) → is_flawed_under view top seen (left, right) ≡ false → (left < top) × (right < top)
-  under_of seen left right sound = elim (cases_lt left top) [
-    | inl low ↦ elim (cases_lt right top) [
-      | inl under ↦ (low, under)
-      | inr over ↦ absurd (let e = sym (flawed_under-right view top left right seen over) ∙ sound in cc)
-    ]
-    | inr over ↦ absurd (let e = sym (flawed_under-left view top left right seen over) ∙ sound in cc)
-  ]
+  under_of seen left right sound = (grind (arith, nat_tests, sound), grind (arith, nat_tests, sound))
 
   -- a rule, from its two numbers
   read_rule : (before : Option (ℕ × ℕ)) (seen : List (ℕ × ℕ)) (more right : ℕ) (rule : ℕ × ℕ) (bits middle rest : List Bool)
@@ -95,14 +89,7 @@ module _ (view : RulesView) (base top : ℕ) where
   -- so has one that comes after it
   floor_of : (before : Option (ℕ × ℕ)) (left right : ℕ) → HasFloor before → least_right base before left ≤ right → layer_floor base left ≤ right
   floor_of None left right has rises = rises
-  floor_of (Some before) left right has rises = elim (cases_Bool (eqb left before.0)) [
-    | inl same ↦
-        let equal : before.0 ≡ left = grind (arith, nat_tests, same) in
-        let over : before.1 ≤ right = rw same at rises in
-        let floor : layer_floor base left ≤ before.1 = subst (λ left. layer_floor base left ≤ before.1) equal has in
-        omega (arith, floor, over)
-    | inr differ ↦ rw differ at rises
-  ]
+  floor_of (Some before) left right has rises = grind (arith, nat_tests, has, rises)
 
   -- rules of a layer that are read
   pub record IsReadLayer (before : Option (ℕ × ℕ)) (many : ℕ) (seen all : List (ℕ × ℕ)) (bits rest : List Bool) : Type 0 where

@@ -3,7 +3,7 @@ use Rattle.std.proofs.Common.{◌≡◌, ℕ, ◌-◌, ◌^◌, ◌<◌, true, f
 use Rattle.std.specs.Prelude.{IfOk}
 use Rattle.std.specs.Int.{Width, w32}
 use Rattle.std.specs.List.Sorted.{IsStrictlyIncreasing}
-use Rattle.std.proofs.lemmas.Bool.{lt-ltb, ltb-true, cases_lt}
+use Rattle.std.proofs.lemmas.Bool.{lt-ltb, cases_lt}
 use Rattle.std.proofs.lemmas.Bool.Decides.{nat_tests}
 use Rattle.std.proofs.lemmas.List.Elements.{All-nil}
 use Rattle.list_laws.proofs.FrontLemmas.{All-front, All-last, All-snoc, IsStrictlyIncreasing-front, IsStrictlyIncreasing-last, IsStrictlyIncreasing-snoc}
@@ -42,9 +42,7 @@ shorts_listed section period =
 
 -- a number rises if and only if it is greater than the last
 rises-above : (seen : List ℕ) (n : ℕ) → rises seen n ≡ true → 0 < length seen → slice_index seen (length seen - 1) < n
-rises-above seen n up some =
-    let more : eqb (length seen) 0 ≡ false = grind (arith, nat_tests) in
-    ltb-true (slice_index seen (length seen - 1)) n (rw more at up)
+rises-above seen n up some = grind (arith, nat_tests, up, some)
 
 above-rises : (seen : List ℕ) (n : ℕ) → (0 < length seen → slice_index seen (length seen - 1) < n) → rises seen n ≡ true
 above-rises seen n above = elim (cases_lt 0 (length seen)) [

@@ -1,5 +1,5 @@
 -- Layers of rules, one above the other, are rules in order.
-use Rattle.std.proofs.Common.{◌≡◌, ℕ, zero, suc, ◌+◌, ◌-◌, ◌<◌, ◌≤◌, true, eqb, Option, Some, None, List, [], ◌∷◌, ◌++◌, length, get_or, map, drop, refl, sym, ap, subst, ◌∙◌, inl, inr, arith}
+use Rattle.std.proofs.Common.{◌≡◌, ℕ, zero, suc, ◌+◌, ◌-◌, ◌<◌, ◌≤◌, true, Option, Some, None, List, [], ◌∷◌, ◌++◌, length, get_or, map, drop, refl, sym, ap, subst, ◌∙◌, inl, inr, arith}
 use Rattle.std.specs.Prelude.{zip}
 use Rattle.rule_store.specs.Expansion.{depths}
 use Rattle.std.proofs.Math.ListN.{get_or-append}
@@ -17,14 +17,8 @@ follow-next layer before rule = rw (lt-ltb layer (suc layer) (omega arith)) refl
 
 -- a rule of the same layer, which comes after the one before it
 follow-same : (base top layer : ℕ) (before rule : ℕ × ℕ) → Follows base top (Some before) rule → may_follow (layer, before) (layer, rule) ≡ true
-follow-same base top layer before rule follows = elim (cases_lt before.0 rule.0) [
-  | inl less ↦ grind (arith, nat_tests, less)
-  | inr same ↦
-      let left : rule.0 ≡ before.0 = omega (arith, same, follows.left_rises) in
-      let test : eqb rule.0 before.0 ≡ true = grind (arith, nat_tests, left) in
-      let right : before.1 ≤ rule.1 = rw test at follows.right_rises in
-      grind (arith, nat_tests, left, right)
-]
+follow-same base top layer before rule follows =
+    let left = follows.left_rises in let right = follows.right_rises in grind (arith, nat_tests, left, right)
 
 -- rules of a layer, and others that may follow any rule of it
 follow-layer : (base top layer : ℕ) (before : ℕ × ℕ) (rules : List (ℕ × ℕ)) (more : List (ℕ × (ℕ × ℕ)))

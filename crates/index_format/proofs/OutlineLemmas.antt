@@ -1,5 +1,5 @@
 -- Ascending lists, read from their gaps.
-use Rattle.std.proofs.Common.{◌≡◌, ℕ, suc, ◌+◌, ◌-◌, ◌*◌, ◌<◌, ◌≤◌, ◌^◌, true, false, nat_le, eqb, Bool, List, [], ◌∷◌, ◌++◌, length, get_or, Ok, Err, refl, sym, ap, subst, ◌∙◌, arith, drop, append_assoc, append-nil}
+use Rattle.std.proofs.Common.{◌≡◌, ℕ, suc, ◌+◌, ◌-◌, ◌*◌, ◌<◌, ◌≤◌, ◌^◌, false, eqb, Bool, List, [], ◌∷◌, ◌++◌, length, get_or, Ok, Err, refl, sym, ap, subst, ◌∙◌, arith, drop, append_assoc, append-nil}
 use Rattle.std.proofs.Math.Seq.{get_or-append_seam}
 use Rattle.std.proofs.lemmas.Bool.Decides.{nat_tests}
 use Rattle.std.proofs.lemmas.List.{length-append, drop_all, drop_more}
@@ -40,18 +40,12 @@ module _ (seen : List ℕ) (bits : List Bool) (i least : ℕ) (long : length see
     -- an object of more than four bytes
     pub object_in-large : 2 ^ 32 - 1 < least + gap → object_in seen bits ≡ Err (flaw_at Objects 0 i Field)
     unfolding object_in
-    object_in-large large =
-        let above : 2 ^ 32 - 1 < least_after seen + gap = omega (arith, large, least_is) in
-        let test : nat_le (least_after seen + gap) (2 ^ 32 - 1) ≡ false = grind (arith, nat_tests, above) in
-        rw (here, test) (ap (λ k. Err (flaw_at Objects 0 k Field)) long)
+    object_in-large large = rw (here, long) (grind (arith, nat_tests, large, least_is))
 
     -- an object
     pub object_in-ok : least + gap ≤ 2 ^ 32 - 1 → object_in seen bits ≡ Ok (least + gap, after)
     unfolding object_in
-    object_in-ok small =
-        let within : least_after seen + gap ≤ 2 ^ 32 - 1 = omega (arith, small, least_is) in
-        let test : nat_le (least_after seen + gap) (2 ^ 32 - 1) ≡ true = grind (arith, nat_tests, within) in
-        rw (here, test) (ap (λ n. Ok (n + gap, after)) (sym least_is))
+    object_in-ok small = rw here (grind (arith, nat_tests, small, least_is))
 
 module _ (height : ℕ) (seen : List ℕ) (bits : List Bool) (i least : ℕ) (long : length seen ≡ i) (least_is : least ≡ least_after seen) where
   -- a gap that cannot be read

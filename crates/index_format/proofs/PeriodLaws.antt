@@ -1,5 +1,5 @@
 -- The sections of a period: what is read is spelled so and shaped, and what is shaped is read again.
-use Rattle.std.proofs.Common.{◌≡◌, ℕ, ◌≤◌, true, List, [], ◌++◌, length, All, Ok, refl, ap, ◌∙◌, append_assoc, arith}
+use Rattle.std.proofs.Common.{◌≡◌, ℕ, ◌≤◌, List, [], ◌++◌, length, All, Ok, refl, ap, ◌∙◌, append_assoc, arith}
 use Rattle.std.specs.Prelude.{IfOk, nat_le}
 use Rattle.std.specs.List.{flat_map}
 use Rattle.std.specs.Int.{w32}
@@ -29,9 +29,7 @@ tree_length_at-takes number bytes fits =
 tree_length_at-again : (number n : ℕ) (rest : List ℕ) → n ≤ MAX_TREE → tree_length_at number (short_bytes n ++ rest) ≡ Ok (n, rest)
 unfolding tree_length_at
 tree_length_at-again number n rest low =
-    let read = number_at-again wide32 (flaw_at TreeLen number 0 Short) n rest (omega arith) in
-    let test : nat_le n MAX_TREE ≡ true = grind (arith, nat_tests, low) in
-    rw (read, test) refl
+    rw (number_at-again wide32 (flaw_at TreeLen number 0 Short) n rest (omega arith)) (grind (arith, nat_tests, low))
 
 -- a period that was read is spelled so
 pub period_sections_at-takes : (objects : ℕ) (seen : List PeriodParts) (bytes : List ℕ) → IsBytes bytes

@@ -1,7 +1,8 @@
 -- Rules that are put layer by layer.
-use Rattle.std.proofs.Common.{◌≡◌, ℕ, ◌+◌, ◌-◌, ◌<◌, ◌≤◌, ◌^◌, true, false, Bool, Option, Some, None, List, [], ◌∷◌, ◌++◌, length, get_or, drop, take, refl, sym, ap, subst, ◌∙◌, inl, inr, arith, append_assoc, append-nil}
+use Rattle.std.proofs.Common.{◌≡◌, ℕ, ◌+◌, ◌-◌, ◌<◌, ◌≤◌, ◌^◌, true, false, Bool, Option, Some, None, List, [], ◌∷◌, ◌++◌, length, get_or, drop, take, refl, sym, ap, subst, ◌∙◌, arith, append_assoc, append-nil}
 use Rattle.std.specs.List.{prefix_len}
-use Rattle.std.proofs.lemmas.Bool.{cases_lt, lt-ltb, le-ltb}
+use Rattle.std.proofs.lemmas.Bool.{lt-ltb}
+use Rattle.std.proofs.lemmas.Bool.Decides.{nat_tests}
 use Rattle.std.proofs.lemmas.List.{length-append, length-drop, drop_all, drop_more, take_at, drop_at}
 use Rattle.bit_stream.specs.Numbers.{number_bits}
 use Rattle.index_format.specs.IsOutline.{AreInOrder}
@@ -17,10 +18,7 @@ under-own base top before rule follows = rw (lt-ltb rule.0 top follows.left, lt-
 
 -- and one of the layer above is not
 under-next : (top here : ℕ) (before : Option (ℕ × ℕ)) (rule : ℕ × ℕ) → Follows top here before rule → are_under top rule ≡ false
-under-next top here before rule follows = elim (cases_lt rule.0 top) [
-  | inl low ↦ let over : top ≤ rule.1 = rw (lt-ltb rule.0 top low) at follows.floor in rw (lt-ltb rule.0 top low, le-ltb rule.1 top over) refl
-  | inr over ↦ rw (le-ltb rule.0 top over) refl
-]
+under-next top here before rule follows = let floor = follows.floor in grind (arith, nat_tests, floor)
 
 -- so a layer ends where the first rule is not under it
 layer_len-is : (base top here : ℕ) (before : Option (ℕ × ℕ)) (layer : List (ℕ × ℕ)) (more : List (List (ℕ × ℕ))) → IsLayer base top before layer

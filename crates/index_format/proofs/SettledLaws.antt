@@ -1,8 +1,8 @@
 -- The order of rules in a file is that of settled rules.
-use Rattle.std.proofs.Common.{◌≡◌, ℕ, zero, suc, ◌+◌, ◌<◌, true, false, Bool, nat_le, eqb, List, [], ◌∷◌, length, get_or, refl, sym, ap, ◌∙◌, inl, inr, arith}
+use Rattle.std.proofs.Common.{◌≡◌, ℕ, zero, suc, ◌+◌, ◌<◌, true, false, Bool, nat_le, List, [], ◌∷◌, length, get_or, refl, sym, ap, ◌∙◌, arith}
 use Rattle.std.specs.Prelude.{not, zip}
 use Rattle.std.specs.Ordering.{is_lt, nat_cmp}
-use Rattle.std.proofs.lemmas.Bool.{and_parts, cases_lt, lt-ltb, le-ltb}
+use Rattle.std.proofs.lemmas.Bool.{and_parts, lt-ltb}
 use Rattle.std.proofs.lemmas.Bool.Decides.{nat_tests}
 use Rattle.std.proofs.lemmas.List.{get_or-drop, length-drop}
 use Rattle.std.proofs.lemmas.Slice.Zip.{get_or-zip, length-zip}
@@ -11,7 +11,6 @@ use Rattle.rule_store.specs.Expansion.{depth_above, depths}
 use Rattle.rule_store.specs.Flaws.{rule_parts}
 use Rattle.rule_order.specs.Layers.{layer_of}
 use Rattle.rule_order.specs.Order.{IsSettled, key_order, rule_key}
-use Rattle.rule_order.proofs.OrderLemmas.{nat_cmp-greater, nat_cmp-less, nat_cmp-same}
 use Rattle.index_format.specs.IsOutline.{AreInOrder, all_follow, may_follow}
 use Rattle.index_format.specs.OutlineRules.{layers_of}
 use Rattle.index_format.proofs.DepthLemmas.{known-terminals, terminals_of}
@@ -28,41 +27,11 @@ Known = ℕ × (ℕ × ℕ)
 
 -- a number is at most another if and only if that one does not come before it
 last-order : (m n : ℕ) → nat_le m n ≡ not (is_lt (nat_cmp n m))
-last-order m n = elim (cases_lt n m) [
-  | inl less ↦ let fails : nat_le m n ≡ false = grind (arith, nat_tests, less) in rw (fails, nat_cmp-less n m less) refl
-  | inr most ↦
-      let holds : nat_le m n ≡ true = grind (arith, nat_tests, most) in
-      elim (cases_lt m n) [
-        | inl above ↦ rw (holds, nat_cmp-greater n m above) refl
-        | inr least ↦ let same : n ≡ m = omega (arith, most, least) in rw (holds, nat_cmp-same n m same) refl
-      ]
-]
+last-order m n = grind (arith, nat_tests)
 
 -- one may follow another if and only if it does not come before it
 may_follow-order : (a b : Known) → may_follow a b ≡ not (is_lt (key_order b a))
-may_follow-order a b = elim (cases_lt a.0 b.0) [
-  | inl less ↦ rw (lt-ltb a.0 b.0 less, nat_cmp-greater b.0 a.0 less) refl
-  | inr most ↦ elim (cases_lt b.0 a.0) [
-    | inl more ↦
-        let differ : eqb a.0 b.0 ≡ false = grind (arith, nat_tests, more) in
-        rw (le-ltb a.0 b.0 most, differ, nat_cmp-less b.0 a.0 more) refl
-    | inr least ↦
-        let layer : b.0 ≡ a.0 = omega (arith, most, least) in
-        let same : eqb a.0 b.0 ≡ true = grind (arith, nat_tests, layer) in
-        rw (le-ltb a.0 b.0 most, same, nat_cmp-same b.0 a.0 layer) (elim (cases_lt a.1.0 b.1.0) [
-          | inl less ↦ rw (lt-ltb a.1.0 b.1.0 less, nat_cmp-greater b.1.0 a.1.0 less) refl
-          | inr above ↦ elim (cases_lt b.1.0 a.1.0) [
-            | inl more ↦
-                let other : eqb a.1.0 b.1.0 ≡ false = grind (arith, nat_tests, more) in
-                rw (le-ltb a.1.0 b.1.0 above, other, nat_cmp-less b.1.0 a.1.0 more) refl
-            | inr below ↦
-                let left : b.1.0 ≡ a.1.0 = omega (arith, above, below) in
-                let equal : eqb a.1.0 b.1.0 ≡ true = grind (arith, nat_tests, left) in
-                rw (le-ltb a.1.0 b.1.0 above, equal, nat_cmp-same b.1.0 a.1.0 left) (last-order a.1.1 b.1.1)
-          ]
-        ])
-  ]
-]
+may_follow-order a b = grind (arith, nat_tests)
 
 -- what may follow one that may follow another may follow that
 may_follow-trans : (a b c : Known) → may_follow a b ≡ true → may_follow b c ≡ true → may_follow a c ≡ true

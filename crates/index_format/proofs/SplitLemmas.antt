@@ -1,7 +1,7 @@
 -- Rules in order fall into layers, one above the other.
-use Rattle.std.proofs.Common.{◌≡◌, ℕ, suc, ◌+◌, ◌<◌, ◌≤◌, true, false, nat_lt, nat_le, eqb, Some, None, List, [], ◌∷◌, ◌++◌, length, get_or, drop, refl, sym, ap, subst, ◌∙◌, ◌⊎◌, inl, inr, arith}
-use Rattle.std.specs.Prelude.{◌&&◌, ◌||◌, zip}
-use Rattle.std.proofs.lemmas.Bool.{and_parts, cases_lt, lt-ltb, le-ltb}
+use Rattle.std.proofs.Common.{◌≡◌, ℕ, suc, ◌+◌, ◌<◌, ◌≤◌, true, false, Some, None, List, [], ◌∷◌, ◌++◌, length, get_or, drop, refl, sym, ap, subst, ◌∙◌, ◌⊎◌, inl, inr, arith}
+use Rattle.std.specs.Prelude.{zip}
+use Rattle.std.proofs.lemmas.Bool.{and_parts, cases_lt}
 use Rattle.std.proofs.lemmas.Bool.Decides.{nat_tests}
 use Rattle.std.proofs.lemmas.List.{length-append}
 use Rattle.rule_store.specs.Expansion.{depths}
@@ -18,27 +18,15 @@ pub record IsBelow (here : ℕ) (rule : ℕ × ℕ) : Type 0 where
 
 -- from the test
 pub below_of : (here : ℕ) (rule : ℕ × ℕ) → are_below here rule ≡ true → IsBelow here rule
-below_of here rule test = elim (cases_lt rule.0 here) [
-  | inl left ↦ elim (cases_lt rule.1 here) [
-    | inl right ↦ record { left = left; right = right }
-    | inr over ↦ absurd (let e = rw (lt-ltb rule.0 here left, le-ltb rule.1 here over) at test in cc)
-  ]
-  | inr over ↦ absurd (let e = rw (le-ltb rule.0 here over) at test in cc)
-]
+below_of here rule test = record { left = grind (arith, nat_tests, test); right = grind (arith, nat_tests, test) }
 
--- a floor under a symbol below it, and under one that is not
-floor-low : (base left right : ℕ) → left < base → base ≤ right → layer_floor base left ≤ right
-floor-low base left right low over = rw (lt-ltb left base low) over
-
+-- no part is under the floor of one that is not below the base
 floor-high : (base left right : ℕ) → base ≤ left → layer_floor base left ≤ right
-floor-high base left right over = rw (le-ltb left base over) (omega arith)
+floor-high base left right over = grind (arith, nat_tests, over)
 
 -- a floor is the base at most
 floor-right : (base left right : ℕ) → base ≤ right → layer_floor base left ≤ right
-floor-right base left right over = elim (cases_lt left base) [
-  | inl low ↦ floor-low base left right low over
-  | inr high ↦ floor-high base left right high
-]
+floor-right base left right over = grind (arith, nat_tests, over)
 
 -- a rule of this layer, by its parts
 pub record IsIn (base top : ℕ) (rule : ℕ × ℕ) : Type 0 where
@@ -90,20 +78,13 @@ back-fails layer depth before rule lower = grind (arith, nat_tests, lower)
 -- one of the same layer that may follow comes after
 follows_of : (base top layer : ℕ) (before rule : ℕ × ℕ) → IsIn base top rule → may_follow (layer, before) (layer, rule) ≡ true
     → Follows base top (Some before) rule
-follows_of base top layer before rule is may =
-    let same : eqb layer layer ≡ true = grind (arith, nat_tests) in
-    let parts : nat_lt before.0 rule.0 || (eqb before.0 rule.0) && nat_le before.1 rule.1 ≡ true = rw (le-ltb layer layer (omega arith), same) at may in
-    elim (cases_lt before.0 rule.0) [
-      | inl less ↦
-          let differ : eqb rule.0 before.0 ≡ false = grind (arith, nat_tests, less) in
-          record { left = is.left; right = is.right; floor = is.floor; left_rises = omega (arith, less); right_rises = rw differ is.floor }
-      | inr over ↦
-          let both = and_parts (eqb before.0 rule.0) (nat_le before.1 rule.1) (rw (le-ltb before.0 rule.0 over) at parts) in
-          let equal : before.0 ≡ rule.0 = let tells = both.0 in grind (arith, nat_tests, tells) in
-          let right : before.1 ≤ rule.1 = let tells = both.1 in grind (arith, nat_tests, tells) in
-          let test : eqb rule.0 before.0 ≡ true = grind (arith, nat_tests, equal) in
-          record { left = is.left; right = is.right; floor = is.floor; left_rises = omega (arith, equal); right_rises = rw test right }
-    ]
+follows_of base top layer before rule is may = record {
+  left = is.left;
+  right = is.right;
+  floor = is.floor;
+  left_rises = grind (arith, nat_tests, may);
+  right_rises = let floor = is.floor in grind (arith, nat_tests, may, floor);
+}
 
 -- the first of a layer
 first_of : (base top : ℕ) (rule : ℕ × ℕ) → IsIn base top rule → Follows base top None rule
