@@ -7,7 +7,7 @@ use Rattle.std.specs.List.{AllByRecursion, Contains, list_any, range_with_len}
 use Rattle.std.specs.List.Sorted.{IsStrictlyIncreasing, IsStrictlySortedBy}
 use Rattle.std.specs.Ordering.{nat_cmp}
 use Rattle.std.specs.declared.cmp.Ordering.TheVariants.{Less}
-use Rattle.std.proofs.lemmas.Bool.{cases_lt, cases_order, eq-eqb, eqb-true, ne_eqb}
+use Rattle.std.proofs.lemmas.Bool.{cases_lt, eq-eqb, eqb-true, ne_eqb}
 use Rattle.std.proofs.lemmas.Bool.Decides.{nat_tests}
 use Rattle.std.proofs.lemmas.Cmp.{nat_cmp_total}
 use Rattle.std.proofs.lemmas.List.{get_or-map, length-map}
@@ -91,37 +91,6 @@ module _ {X : Type 0} (key : X → ℕ) (n : ℕ) (xs : List X) (up : IsStrictly
             ∙ ap (λ keys. get_or keys (rank_of key_bits i) 0) (sym filter-has_key)
             ∙ ap (λ k. get_or (filter has_key range) k 0) rank ∙ kept.1 ∙ at,
       )
-
-  -- places of one key are one
-  same_place : (j k : ℕ) (d : X) → j < length xs → k < length xs → key (get_or xs j d) ≡ key (get_or xs k d) → j ≡ k
-  same_place j k d in_j in_k same =
-      let a = get_or-map key xs j d 0 in_j in
-      let b = get_or-map key xs k d 0 in_k in
-      let long = length-map xs key in
-      elim (cases_order j k) [
-        | inl is ↦ is
-        | inr other ↦ elim other [
-          | inl less ↦ absurd (let rise = increasing-below (map key xs) up j k less (omega arith) in omega arith)
-          | inr more ↦ absurd (let rise = increasing-below (map key xs) up k j more (omega arith) in omega arith)
-        ]
-      ]
-
-  module _ (k : ℕ) (d : X) (within : k < length xs) where
-    -- the key of an element is below the end
-    pub key_within : key (get_or xs k d) < n
-    key_within = below k d within
-
-    -- its bit is one
-    pub bit-of_key : get_or key_bits (key (get_or xs k d)) false ≡ true
-    bit-of_key =
-        get_or-map-range_with_len has_key 0 n (key (get_or xs k d)) (key (get_or xs k d)) false key_within (omega arith)
-        ∙ list_any_at (λ x. key x == key (get_or xs k d)) xs k d within (eq-eqb _ _ refl)
-
-    -- its rank is the element's place
-    pub rank-of_key : rank_of key_bits (key (get_or xs k d)) ≡ k
-    rank-of_key =
-        let found = key-of_bit (key (get_or xs k d)) d key_within bit-of_key in
-        same_place (rank_of key_bits (key (get_or xs k d))) k d found.0 within found.1
 
 -- the elements of a key: one, where the keys rise
 module _ {X : Type 0} (key : X → ℕ) where
