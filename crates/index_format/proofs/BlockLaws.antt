@@ -1,6 +1,6 @@
 -- Blocks: what was put is read.
 use Rattle.std.proofs.Common.{◌≡◌, ℕ, zero, suc, ◌+◌, ◌-◌, ◌*◌, ◌/◌, ◌<◌, ◌≤◌, ◌^◌, ℤ, pos, ◌+ℤ◌, ◌-ℤ◌, ◌≤ℤ◌, w64, eqb, true, false, Bool, List, [], ◌∷◌, ◌++◌, length, take, drop, min, Option, None, Some, Ok, inl, inr, refl, sym, ap, subst, ◌∙◌, arith, append_assoc, append-nil, lit<, lit≤}
-use Rattle.std.specs.Prelude.{⊤, All, nat_lt, unsigned_abs}
+use Rattle.std.specs.Prelude.{⊤, All, if◌then◌else◌, nat_lt, unsigned_abs}
 use Rattle.std.specs.Int.{cast_unsigned}
 use Rattle.std.specs.List.{flat_map, range_with_len, sum_by}
 use Rattle.std.proofs.Math.Nat.{div-eq_of_lt-le, mul-le-mul_right, pow-le-pow_right}
@@ -191,20 +191,13 @@ module _ (frame : Frame) (index next : ℕ) (rest : List Bool) where
       → next_anchor_in frame index next (when_bits next at ++ rest) ≡ Ok (Some at, rest)
   unfolding when_bits
   next_anchor-again at some later within short =
+      let gap = if eqb at next then 0 else (at - next + 1) in
       let begun : eqb next 0 ≡ false = grind (arith, nat_tests, some) in
-      elim (cases_lt next at) [
-        | inl apart ↦
-            let other : eqb at next ≡ false = grind (arith, nat_tests, apart) in
-            let gap = at - next + 1 in
-            rw (begun, other) (next_anchor_in-some frame index next (number_bits gap ++ rest) gap rest
-            (told_at-number_bits (flaw_at Gaps (next / frame.period) index) gap rest (omega (arith, within, short)))
-            at (omega (arith, later, within)) (λ one. absurd (omega (arith, one, apart))) (omega (arith, apart)) within)
-        | inr over ↦
-            let same : eqb at next ≡ true = grind (arith, nat_tests, later, over) in
-            rw (begun, same) (next_anchor_in-some frame index next (number_bits 0 ++ rest) 0 rest
-            (told_at-number_bits (flaw_at Gaps (next / frame.period) index) 0 rest (lit≤ tt))
-            at (omega (arith, later, within)) (λ one. absurd (omega (arith, one))) (omega (arith, later, over)) within)
-      ]
+      let small : gap + 2 ≤ 2 ^ 56 = grind (arith, nat_tests, within, short) in
+      let at_is : at ≡ next + (gap - 1) = grind (arith, nat_tests, later) in
+      let more : gap ≡ 1 → ⊥ = λ one. grind (arith, nat_tests, one, later) in
+      rw begun (next_anchor_in-some frame index next (number_bits gap ++ rest) gap rest
+      (told_at-number_bits (flaw_at Gaps (next / frame.period) index) gap rest small) at (omega (arith, later, within)) more at_is within)
 
   -- that there is none was put, and is read
   pub no_anchor-again : next_anchor_in frame index next (number_bits 1 ++ rest) ≡ Ok (None, rest)

@@ -1,5 +1,5 @@
 -- Blocks: what is read was put, and is as an outline has it.
-use Rattle.std.proofs.Common.{◌≡◌, ◌≢◌, ℕ, zero, suc, ◌+◌, ◌-◌, ◌*◌, ◌/◌, ◌<◌, ◌≤◌, eqb, nat_le, nat_lt, true, false, ◌&&◌, Bool, List, [], ◌∷◌, ◌++◌, length, take, drop, min, Option, None, Some, Ok, Err, inl, inr, refl, sym, ap, subst, ◌∙◌, arith, append_assoc, append-nil, if◌then◌else◌}
+use Rattle.std.proofs.Common.{◌≡◌, ℕ, zero, suc, ◌+◌, ◌-◌, ◌*◌, ◌/◌, ◌<◌, ◌≤◌, eqb, nat_le, nat_lt, true, ◌&&◌, Bool, List, [], ◌∷◌, ◌++◌, length, take, drop, min, Option, None, Some, Ok, Err, inl, inr, refl, sym, ap, subst, ◌∙◌, arith, append_assoc, append-nil, if◌then◌else◌}
 use Rattle.std.specs.Prelude.{All}
 use Rattle.std.proofs.lemmas.Grind.{div_ceil_times}
 use Rattle.std.specs.List.{flat_map}
@@ -113,7 +113,6 @@ next_anchor-only frame index next bits place rest some under read =
     let first = bind-only (told_at flaw bits) judged (place, rest) read in
     let gap = first.0.0 in
     let put = told_at-only flaw gap bits first.0.1 first.1 in
-    let begun : eqb next 0 ≡ false = grind (arith, nat_tests, some) in
     elim (cases_Bool (eqb gap 1)) [
       | inl one ↦
           let both = same-read {A = Option ℕ} None place first.0.1 rest (rw one at first.2) in
@@ -126,22 +125,11 @@ next_anchor-only frame index next bits place rest some under read =
           let both = same-read {A = Option ℕ} (Some (next + (gap - 1))) place first.0.1 rest test.1 in
           let at = next + (gap - 1) in
           let within : at < frame.span = grind (arith, nat_tests, test.0, under, more) in
-          let when : number_bits gap ≡ (number_bits (if eqb next 0 then at else if eqb at next then 0 else (at - next + 1))) =
-          elim (cases_lt next at) [
-            | inl apart ↦
-                let other : eqb at next ≡ false = grind (arith, nat_tests, apart) in
-                let same : gap ≡ at - next + 1 = omega (arith, apart) in
-                rw (begun, other) (ap number_bits same)
-            | inr over ↦
-                let same : eqb at next ≡ true = grind (arith, nat_tests, over) in
-                let other : gap ≢ 1 = λ one. grind (arith, nat_tests, one, more) in
-                let none : gap ≡ 0 = omega (arith, over, other) in
-                rw (begun, same) (ap number_bits none)
-          ] in
+          let when : gap ≡ (if eqb next 0 then at else if eqb at next then 0 else (at - next + 1)) = grind (arith, nat_tests, some, more) in
           subst (AnchorOnly frame next bits rest) both.0 (
             omega arith,
             within,
-            put.0 ∙ ap (λ front. front ++ first.0.1) when
+            put.0 ∙ ap (λ gap. number_bits gap ++ first.0.1) when
                 ∙ ap (λ rest. number_bits (if eqb next 0 then at else if eqb at next then 0 else (at - next + 1)) ++ rest) both.1,
           )
     ]
@@ -284,11 +272,7 @@ module _ (frame : Frame) (some : 0 < frame.period) (high : frame.height ≤ MAX_
         | inr over ↦
             let up : k * frame.period ≤ at / frame.period * frame.period = mul-le-mul_right frame.period over in
             omega (arith, here, up)
-        | inl under ↦
-            let up : (at / frame.period + 1) * frame.period ≤ k * frame.period = mul-le-mul_right frame.period (omega (arith, under)) in
-            let next_one : (at / frame.period + 1) * frame.period ≡ at / frame.period * frame.period + frame.period = grind arith in
-            let below : at < at / frame.period * frame.period + frame.period = lt-div-mul-add {a = at} {b = frame.period} some in
-            absurd (omega (arith, up, next_one, below, boundary.1, later, within))
+        | inl under ↦ absurd (omega (arith, (div-lt_iff_lt-mul {k = frame.period} {x = at} {y = k} some).0 under, boundary.1, later, within))
       ]
 
   -- the end of an object's blocks

@@ -1,17 +1,18 @@
 -- Ascending lists by their gaps: what was put is read, and what is read was put.
 use Rattle.std.proofs.Common.{◌≡◌, ℕ, zero, suc, ◌+◌, ◌-◌, ◌*◌, ◌≤◌, ◌^◌, Bool, false, nat_le, List, [], ◌∷◌, ◌++◌, length, Ok, refl, sym, ap, subst, ◌∙◌, inl, inr, arith, append_assoc, append-nil}
 use Rattle.std.specs.Prelude.{⊤}
-use Rattle.std.proofs.lemmas.Bool.{cases_Bool, cases_lt}
+use Rattle.std.proofs.lemmas.Bool.{cases_lt}
 use Rattle.std.proofs.lemmas.Bool.Decides.{nat_tests}
 use Rattle.bit_stream.specs.Numbers.{number_bits}
 use Rattle.spiral_code.specs.Spiral.{square}
 use Rattle.rule_store.specs.Flaws.{leads_out, reach_limit}
 use Rattle.rule_store.proofs.FlawLemmas.{leads_out-above}
+use Rattle.track_types.specs.declared.flaw.Kind.TheVariants.{Code, Field}
 use Rattle.track_types.specs.declared.flaw.Section.TheVariants.{Objects, Alphabet}
 use Rattle.index_format.specs.Fields.{flaw_at, items_at}
 use Rattle.index_format.specs.Elements.{Element, told_at}
 use Rattle.index_format.specs.OutlineLists.{least_after, object_in, value_in, gaps_from, told_bits}
-use Rattle.index_format.proofs.ElementLemmas.{bind-only, same-read, told_at-number_bits, told_at-only}
+use Rattle.index_format.proofs.ElementLemmas.{bind-only, else-only, same-read, then-only, told_at-number_bits, told_at-only}
 use Rattle.index_format.proofs.OutlineLemmas.{least_after-more, object_in-ok, value_in-ok}
 
 -- each number is at least the one that may stand there, and at most a greatest one
@@ -99,22 +100,14 @@ objects-gapped = record {
       object_in-ok seen (number_bits gap ++ rest) (length seen) (least_after seen) refl refl gap rest read (omega (arith, whole, high))
       ∙ ap (λ n. Ok (n, rest)) whole;
   only = λ seen bits number rest read.
-      let test = λ (gap : ℕ × List Bool). nat_le (least_after seen + gap.0) (2 ^ 32 - 1) in
-      let first = bind-only (told_at (flaw_at Objects 0 (length seen)) bits) _ (number, rest) read in
+      let flaw = flaw_at Objects 0 (length seen) in
+      let first = bind-only (told_at flaw bits) _ (number, rest) read in
       let gap = first.0.0 in
-      let told = told_at-only (flaw_at Objects 0 (length seen)) gap bits first.0.1 first.1 in
-      elim (cases_Bool (nat_le (least_after seen + gap) (2 ^ 32 - 1))) [
-        | inl good ↦
-            let same = same-read (least_after seen + gap) number first.0.1 rest (rw good at first.2) in
-            let back : number - least_after seen ≡ gap = omega (arith, same.0) in
-            let within : least_after seen + gap ≤ 2 ^ 32 - 1 = grind (arith, nat_tests, good) in
-            record {
-              low = omega (arith, same.0);
-              high = omega (arith, same.0, within);
-              taken = told.0 ∙ rw (back, same.1) refl;
-            }
-        | inr bad ↦ absurd (let e = rw bad at first.2 in cc)
-      ];
+      let told = told_at-only flaw gap bits first.0.1 first.1 in
+      let test = then-only (nat_le (least_after seen + gap) (2 ^ 32 - 1)) (flaw Field) (Ok (least_after seen + gap, first.0.1)) (number, rest) first.2 in
+      let same = same-read (least_after seen + gap) number first.0.1 rest test.1 in
+      let back : number - least_after seen ≡ gap = omega (arith, same.0) in
+      record { low = omega (arith, same.0); high = grind (arith, nat_tests, test.0, same.0); taken = told.0 ∙ rw (back, same.1) refl };
 }
 
 -- a value leads from some cell of the grid to another one or the same
@@ -130,21 +123,18 @@ values-gapped height small = record {
       (subst (λ n. n ≤ square (2 * reach_limit height + 1)) (sym whole) high)
       ∙ ap (λ n. Ok (n, rest)) whole;
   only = λ seen bits number rest read.
-      let greatest = square (2 * reach_limit height + 1) in
-      let first = bind-only (told_at (flaw_at Alphabet 0 (length seen)) bits) _ (number, rest) read in
+      let flaw = flaw_at Alphabet 0 (length seen) in
+      let first = bind-only (told_at flaw bits) _ (number, rest) read in
       let gap = first.0.0 in
-      let told = told_at-only (flaw_at Alphabet 0 (length seen)) gap bits first.0.1 first.1 in
-      elim (cases_Bool (leads_out height (least_after seen + gap))) [
-        | inl far ↦ absurd (let e = rw far at first.2 in cc)
-        | inr near ↦
-            let same = same-read (least_after seen + gap) number first.0.1 rest (rw near at first.2) in
-            let back : number - least_after seen ≡ gap = omega (arith, same.0) in
-            record {
-              low = omega (arith, same.0);
-              high = subst (λ n. n ≤ greatest) same.0 (within (least_after seen + gap) near);
-              taken = told.0 ∙ rw (back, same.1) refl;
-            }
-      ];
+      let told = told_at-only flaw gap bits first.0.1 first.1 in
+      let test = else-only (leads_out height (least_after seen + gap)) (flaw Code) (Ok (least_after seen + gap, first.0.1)) (number, rest) first.2 in
+      let same = same-read (least_after seen + gap) number first.0.1 rest test.1 in
+      let back : number - least_after seen ≡ gap = omega (arith, same.0) in
+      record {
+        low = omega (arith, same.0);
+        high = subst (λ n. n ≤ square (2 * reach_limit height + 1)) same.0 (within (least_after seen + gap) test.0);
+        taken = told.0 ∙ rw (back, same.1) refl;
+      };
 }
   where
     within : (value : ℕ) → leads_out height value ≡ false → value ≤ square (2 * reach_limit height + 1)
