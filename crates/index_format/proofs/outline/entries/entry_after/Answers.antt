@@ -1,7 +1,6 @@
 use Rattle.std.proofs.Common.{◌≡◌, arith, sym, ◌∙◌, ap, true, false, subst, Ok}
 use mathlib.Core.Bool.{false≢true}
 use Rattle.index_format.specs.OutlineBlocks.{is_in_grid, stays_in}
-use Rattle.index_format.specs.BlockSteps.{log_moved}
 use Rattle.rule_store.specs.Cells.{moved}
 use Rattle.index_format.proofs.EntryLemmas.{log_after-unknown, log_after-known, log_past-out, log_past-long, log_past-fits, entry-inside}
 use Rattle.index_format.proofs.outline.entries.entry_after.Goals as goal

@@ -1,4 +1,3 @@
-use Rattle.std.specs.Prelude.{◌≡◌}
 use Rattle.rule_store.specs.View.{RulesView}
 use Rattle.rule_store.specs.Table.{IsWholeTable}
 use Rattle.index_format.specs.LogReading.{IsReadBehind}
