@@ -26,26 +26,18 @@ where_set-append (bit ∷ bits) [] ys = refl
 where_set-append (true ∷ bits) (x ∷ xs) ys = ap (λ rest. x ∷ rest) (where_set-append bits xs ys)
 where_set-append (false ∷ bits) (x ∷ xs) ys = where_set-append bits xs ys
 
--- one number, by its bit
-pub where_set-one : (bits : List Bool) (p code : ℕ) (bit : Bool) → p < length bits → get_or bits p false ≡ bit →
-    where_set (drop p bits) (code ∷ []) ≡ where_set (bit ∷ []) (code ∷ [])
-unfolding where_set
-where_set-one bits p code true within is = rw (drop_more bits p false within, is) (none (drop (p + 1) bits))
-  where
-    none : (rest : List Bool) → code ∷ where_set rest [] ≡ code ∷ where_set [] []
-    none [] = refl
-    none (bit ∷ rest) = refl
-where_set-one bits p code false within is = rw (drop_more bits p false within, is) (none (drop (p + 1) bits))
-  where
-    none : (rest : List Bool) → where_set rest [] ≡ where_set [] []
-    none [] = refl
-    none (bit ∷ rest) = refl
-
 -- no number
 pub where_set-nil : (bits : List Bool) → where_set bits [] ≡ []
 unfolding where_set
 where_set-nil [] = refl
 where_set-nil (bit ∷ bits) = refl
+
+-- one number, by its bit
+pub where_set-one : (bits : List Bool) (p code : ℕ) (bit : Bool) → p < length bits → get_or bits p false ≡ bit →
+    where_set (drop p bits) (code ∷ []) ≡ where_set (bit ∷ []) (code ∷ [])
+unfolding where_set
+where_set-one bits p code true within is = rw (drop_more bits p false within, is, where_set-nil (drop (p + 1) bits)) refl
+where_set-one bits p code false within is = rw (drop_more bits p false within, is, where_set-nil (drop (p + 1) bits)) refl
 
 -- no bit
 where_set-past : (xs : List ℕ) → where_set [] xs ≡ []

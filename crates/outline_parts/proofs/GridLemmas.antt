@@ -1,8 +1,7 @@
 -- Cells in the grid, counted from its base or not, and the cells that a sound log leads to.
-use Rattle.std.proofs.Common.{All, ◌≡◌, ℕ, suc, ◌-◌, ◌^◌, ◌<◌, ℤ, pos, true, List, [], ◌∷◌, ◌++◌, length, None, Some, Option, IfSome}
-use Rattle.std.proofs.Common.{refl, sym, ap, ◌∙◌, arith, subst}
+use Rattle.std.proofs.Common.{All, ◌≡◌, ℕ, suc, ◌^◌, ◌<◌, ℤ, true, List, [], ◌∷◌, ◌++◌, length, None, Some, Option, IfSome}
+use Rattle.std.proofs.Common.{sym, ap, ◌∙◌, arith, subst}
 use Rattle.std.specs.Prelude.{slice_index}
-use Rattle.std.specs.Int.Signed.{le_z}
 use Rattle.std.specs.Option.{option_to_list}
 use Rattle.std.proofs.lemmas.Grind.{flat_map-append}
 use Rattle.std.proofs.lemmas.Int.{ints}
@@ -35,12 +34,7 @@ module _ (frame : Frame) where
   pub out_of_grid : (cell : Cell) → IsInGrid frame.height frame.base (cell_from frame cell) → is_in_grid frame.height cell ≡ true
   out_of_grid cell is =
       let some : 0 < 2 ^ frame.height = pow_pos frame.height in
-      let far : ℤ = pos (2 ^ frame.height - 1) in
-      let a : le_z (pos 0) cell.x ≡ true = grind (arith, ints, is.left) in
-      let b : le_z cell.x far ≡ true = grind (arith, ints, is.left, is.right, some) in
-      let c : le_z (pos 0) cell.y ≡ true = grind (arith, ints, is.below) in
-      let d : le_z cell.y far ≡ true = grind (arith, ints, is.below, is.above, some) in
-      rw (a, b, c, d) refl
+      grind (arith, ints, is.left, is.right, is.below, is.above, some)
 
   -- cells of a box that is placed in the grid are in it
   in-hull : (cell : Cell) (hull : Option CellBox) (values : List ℕ) → hull ≡ bounding_box_of values →

@@ -1,10 +1,11 @@
 -- Pieces of a list that follow each other.
-use Rattle.std.proofs.Common.{◌≡◌, ℕ, zero, suc, ◌+◌, ◌-◌, ◌≤◌, List, [], ◌∷◌, ◌++◌, map, take, drop, None, Some, Option}
-use Rattle.std.proofs.Common.{refl, sym, ap, ◌∙◌, arith}
-use Rattle.std.specs.List.{cons_option, filter_map, flat_map, range_with_len, slice_range}
+use Rattle.std.proofs.Common.{◌≡◌, ℕ, zero, suc, ◌+◌, ◌-◌, ◌≤◌, List, [], ◌∷◌, ◌++◌, map, take, drop, Option}
+use Rattle.std.proofs.Common.{refl, sym, ap, ◌∙◌, arith, inl, inr}
+use Rattle.std.specs.List.{filter_map, flat_map, range_with_len, slice_range}
 use Rattle.std.specs.Option.{option_map}
 use Rattle.std.proofs.Math.Seq.{take-add}
 use Rattle.std.proofs.lemmas.List.{drop-drop}
+use Rattle.list_laws.proofs.OptionLemmas.{made_cases}
 use Rattle.list_laws.proofs.RangeLemmas.{range-more}
 use Rattle.std.proofs.lemmas.List.Concat.{flat_map-append}
 use Rattle.std.proofs.lemmas.List.{append-nil}
@@ -47,9 +48,7 @@ module _ {X : Type 0} (xs : List X) where
 pub filter_map-map : {X Y Z : Type 0} (f : Y → Z) (make : X → Option Y) (xs : List X) →
     filter_map (λ x. option_map f (make x)) xs ≡ map f (filter_map make xs)
 filter_map-map f make [] = refl
-filter_map-map {X} {Y} f make (x ∷ xs) = behind (make x) (filter_map-map f make xs)
-  where
-    behind : (one : Option Y) → filter_map (λ y. option_map f (make y)) xs ≡ map f (filter_map make xs) →
-        cons_option (option_map f one) (filter_map (λ y. option_map f (make y)) xs) ≡ map f (cons_option one (filter_map make xs))
-    behind None rest = rest
-    behind (Some y) rest = ap (λ zs. f y ∷ zs) rest
+filter_map-map f make (x ∷ xs) = elim (made_cases (make x)) [
+  | inl none ↦ rw none (filter_map-map f make xs)
+  | inr some ↦ rw some.1 (ap (λ zs. f some.0 ∷ zs) (filter_map-map f make xs))
+]

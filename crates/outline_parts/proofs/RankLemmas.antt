@@ -2,8 +2,8 @@
 use Rattle.std.proofs.Common.{◌≡◌, ℕ, zero, suc, ◌+◌, ◌<◌, ◌≤◌, ◌==◌, Bool, true, false, cond, List, ◌∷◌, length, filter, get_or, map, None, Some, Option}
 use Rattle.std.proofs.Common.{refl, sym, ap, ◌∙◌, arith, inl, inr}
 use Rattle.std.specs.Prelude.{if◌then◌else◌, slice_index_or}
-use Rattle.std.specs.List.{Contains, filter_map, list_any, range_with_len}
-use Rattle.std.proofs.lemmas.Bool.{cases_Bool, eq-eqb, eqb-true}
+use Rattle.std.specs.List.{filter_map, list_any, range_with_len}
+use Rattle.std.proofs.lemmas.Bool.{cases_Bool, eq-eqb, ne_eqb}
 use Rattle.std.proofs.lemmas.List.{get_or_default, same_lists}
 use Rattle.std.proofs.lemmas.List.Elements.{All-contains}
 use Rattle.std.proofs.lemmas.List.Folds.{list_any_at}
@@ -85,16 +85,9 @@ module _ (view : SnapshotView) (is : IsSnapshot view) where
         there.0 (present_block view i) there.1 (eq-eqb _ i (ap (λ (block : Anchored). block.index) at)) ∙ sym on
     | inr off ↦
         list_any-none (λ (block : Anchored). block.index == i) (filter_map (block_of view) (range_with_len 0 view.objects))
-        (λ block inside. none-of (block.index == i) refl inside off) ∙ sym off
+        (λ block inside. ne_eqb block.index i (λ same.
+        let its = All-contains (IsBlock view) (all_blocks view) block (All-all_blocks view is) inside in
+        let on : slice_index_or view.parts.present block.index false ≡ true =
+        get_or_from_slice_get view.parts.present block.index true false its.present in
+        let clash : true ≡ false = sym on ∙ ap (λ j. slice_index_or view.parts.present j false) same ∙ off in cc)) ∙ sym off
   ]
-    where
-      none-of : {block : Anchored} (b : Bool) → (block.index == i) ≡ b → Contains (all_blocks view) block
-          → slice_index_or view.parts.present i false ≡ false → b ≡ false
-      none-of false e inside off = refl
-      none-of {block} true e inside off =
-          let its = All-contains (IsBlock view) (all_blocks view) block (All-all_blocks view is) inside in
-          let on : slice_index_or view.parts.present block.index false ≡ true =
-          get_or_from_slice_get view.parts.present block.index true false its.present in
-          let same : block.index ≡ i = eqb-true block.index i e in
-          let clash : true ≡ false = sym on ∙ ap (λ j. slice_index_or view.parts.present j false) same ∙ off in
-          absurd (cc)
