@@ -136,7 +136,8 @@ module _ (frame : Frame) (view : RulesView) (index : ℕ) (before : Told) (bits 
       pub object_blocks_in-no_block : (why : FormatFault) → IsFormatFault (block_in frame view index (object_begun before) start rest) why
           → IsFormatFault (object_blocks_in frame view index before bits) why
       object_blocks_in-no_block why read =
-          bind-fault (block_in frame view index (object_begun before) start rest) (λ block. further_in frame.span frame view index block.0 block.1)
+          bind-fault (block_in frame view index (object_begun before) start rest)
+          (λ block. further_in frame.span frame view index block.0 block.1)
           (object_blocks_in-some some) why read
 
       module _ (first : Told) (after : List Bool) (block : block_in frame view index (object_begun before) start rest ≡ Ok (first, after)) where
@@ -200,7 +201,8 @@ module _ {table : EntryTable} {frame : Frame} {index count i : ℕ} {told : Told
         → IsFormatFault (next_anchor_in frame index told.next bits) why
         → IsFormatFault (further_in count frame view index first whole) why
     blocks-no_anchor view known why read =
-        bind-fault (next_anchor_in frame index told.next bits) (further_from (count - (i + 1)) frame view index told) (step view known) why read
+        bind-fault (next_anchor_in frame index told.next bits) (further_from (count - (i + 1)) frame view index told)
+        (step view known) why read
 
     -- there is none
     pub blocks-last : (rest : List Bool) → next_anchor_in frame index told.next bits ≡ Ok (None, rest)

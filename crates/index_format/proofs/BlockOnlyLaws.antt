@@ -272,7 +272,8 @@ module _ (frame : Frame) (some : 0 < frame.period) (high : frame.height ≤ MAX_
         | inr over ↦
             let up : k * frame.period ≤ at / frame.period * frame.period = mul-le-mul_right frame.period over in
             omega (arith, here, up)
-        | inl under ↦ absurd (omega (arith, (div-lt_iff_lt-mul {k = frame.period} {x = at} {y = k} some).0 under, boundary.1, later, within))
+        | inl under ↦
+            absurd (omega (arith, (div-lt_iff_lt-mul {k = frame.period} {x = at} {y = k} some).0 under, boundary.1, later, within))
       ]
 
   -- the end of an object's blocks
@@ -291,12 +292,13 @@ module _ (frame : Frame) (some : 0 < frame.period) (high : frame.height ≤ MAX_
   further_ended told bits done rest begun over room read =
       let both = same-read told done bits rest read in
       subst (λ done. FurtherOnly frame view objects index told bits done rest) both.0
-      (further-none frame view objects index told bits rest room (both.1 ∙ ap (λ front. front ++ rest) (sym (end_is-told told.next begun over))))
+      (further-none frame view objects index told bits rest room
+      (both.1 ∙ ap (λ front. front ++ rest) (sym (end_is-told told.next begun over))))
 
   -- further blocks that are read were put, with so many steps left
   abbrev WerePut : ℕ → Told → List Bool → Type 0
-  WerePut most done rest = (told : Told) (bits : List Bool) → 0 < told.next → IsBoundary frame told.next → length told.symbols ≤ limit_of Symbols
-      → frame.span ≤ told.next + most → further_in most frame view index told bits ≡ Ok (done, rest)
+  WerePut most done rest = (told : Told) (bits : List Bool) → 0 < told.next → IsBoundary frame told.next
+      → length told.symbols ≤ limit_of Symbols → frame.span ≤ told.next + most → further_in most frame view index told bits ≡ Ok (done, rest)
       → FurtherOnly frame view objects index told bits done rest
 
   -- a block was read, and those behind it
@@ -304,7 +306,8 @@ module _ (frame : Frame) (some : 0 < frame.period) (high : frame.height ≤ MAX_
       → length told.symbols ≤ limit_of Symbols → frame.span ≤ at + suc most → WerePut most done rest
       → block_in frame view index told at after >>= (λ block. further_in most frame view index block.0 block.1) ≡ Ok (done, rest)
       → (now : ℕ) → now ≤ at / frame.period * frame.period → bits ≡ when_bits now at ++ after
-      → FurtherOnly frame view objects index (record { blocks = told.blocks; symbols = told.symbols; next = now; last = told.last }) bits done rest
+      → FurtherOnly frame view objects index (record { blocks = told.blocks; symbols = told.symbols; next = now; last = told.last })
+      bits done rest
   block_then-only most told at bits after done rest within room enough again read now early put =
       let first = bind-only (block_in frame view index told at after) (λ block. further_in most frame view index block.0 block.1) (done, rest) read in
       let one = block-only frame some high view lasting objects index told at after first.0.0 first.0.1 inside within room first.1 in
@@ -325,7 +328,8 @@ module _ (frame : Frame) (some : 0 < frame.period) (high : frame.height ≤ MAX_
       → further_from most frame view index told (place, after) ≡ Ok (done, rest) → FurtherOnly frame view objects index told bits done rest
   by_place most told bits done rest begun boundary room enough under again None after put read =
       let both = same-read told done after rest read in
-      subst (λ done. FurtherOnly frame view objects index told bits done rest) both.0 (further-none frame view objects index told bits rest room
+      subst (λ done. FurtherOnly frame view objects index told bits done rest) both.0
+      (further-none frame view objects index told bits rest room
       (put ∙ ap (λ rest. number_bits 1 ++ rest) both.1 ∙ ap (λ front. front ++ rest) (sym (end_is-none told.next begun under))))
   by_place most told bits done rest begun boundary room enough under again (Some at) after put read =
       block_then-only most told at bits after done rest put.1 room (omega (arith, enough, put.0)) again read told.next

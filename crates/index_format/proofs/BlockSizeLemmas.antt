@@ -101,8 +101,8 @@ end_bits-short frame next small = elim (cases_Bool (eqb next 0)) [
 ]
 
 -- the cell of an anchor in the grid
-anchor_bits-short : (height : ℕ) (last : Option Cell) (cell : Cell) → height ≤ MAX_HEIGHT → IsKept height last → is_in_grid height cell ≡ true
-    → length (anchor_bits height last cell) ≤ 60
+anchor_bits-short : (height : ℕ) (last : Option Cell) (cell : Cell) → height ≤ MAX_HEIGHT → IsKept height last
+    → is_in_grid height cell ≡ true → length (anchor_bits height last cell) ≤ 60
 unfolding anchor_bits
 anchor_bits-short height None cell low inside here =
     let x = cast_unsigned w64 cell.x in
@@ -170,7 +170,8 @@ module _ (frame : Frame) (view : RulesView) (objects : ℕ) (is : IsFrame frame)
       let later = blocks_bits-from count (index + 1) it.others rest (follow-back comes_after it.own it.others sorted)
       (λ k d within. omega (arith, it.later k d within)) (logs-back (IsBlock frame view objects) it.own it.others symbols both) in
       let others = blocks_bits frame view it.others (range_with_len (index + 1) count) rest in
-      let parts : blocks_bits frame view blocks (range_with_len index (suc count)) symbols ≡ object_bits frame view 0 None it.own log ++ others =
+      let parts : blocks_bits frame view blocks (range_with_len index (suc count)) symbols
+      ≡ object_bits frame view 0 None it.own log ++ others =
       ap (λ blocks. blocks_bits frame view blocks (range_with_len index (suc count)) symbols) (sym it.joined)
       ∙ blocks_bits-step frame view it.own it.others index count symbols it.same it.later
       ∙ ap (λ first. first ++ others) (sym (object_bits-taken frame view 0 None it.own symbols n (omega arith))) in

@@ -68,7 +68,8 @@ at_place-only flaw (Err fault) last read = absurd (cc)
 
 module _ (flaw : Kind → Flaw) where
   -- a number that was put is read
-  pub told_at-number_bits : (number : ℕ) (bits : List Bool) → number + 2 ≤ 2 ^ 56 → told_at flaw (number_bits number ++ bits) ≡ Ok (number, bits)
+  pub told_at-number_bits : (number : ℕ) (bits : List Bool) → number + 2 ≤ 2 ^ 56
+      → told_at flaw (number_bits number ++ bits) ≡ Ok (number, bits)
   unfolding told_at
   told_at-number_bits number bits small = rw (number_in-number_bits number bits small) refl
 
@@ -79,7 +80,8 @@ module _ (flaw : Kind → Flaw) where
   told_at-only number bits rest read = number_in-only number bits rest (at_place-only flaw (number_in bits) (number, rest) read)
 
   -- and so it is with a number of so many bits
-  pub wide_at-low_bits : (width value : ℕ) (rest : List Bool) → value < 2 ^ width → wide_at flaw width (low_bits width value ++ rest) ≡ Ok (value, rest)
+  pub wide_at-low_bits : (width value : ℕ) (rest : List Bool) → value < 2 ^ width
+      → wide_at flaw width (low_bits width value ++ rest) ≡ Ok (value, rest)
   unfolding wide_at
   wide_at-low_bits width value rest small = rw (low_in-low_bits width value rest, mod-eq_of_lt small) refl
 

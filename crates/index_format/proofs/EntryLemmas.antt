@@ -161,7 +161,8 @@ module _ {table : EntryTable} {frame : Frame} {period count i : ℕ} {symbols : 
         → IsFormatFault (entry_in frame view period (log_with symbols log) bits) why
         → IsFormatFault (log_in count frame view period (log_with first start) whole) why
     entries-fault view known why read =
-        bind-fault (entry_in frame view period (log_with symbols log) bits) (λ entry. log_in (count - (i + 1)) frame view period entry.0 entry.1)
+        bind-fault (entry_in frame view period (log_with symbols log) bits)
+        (λ entry. log_in (count - (i + 1)) frame view period entry.0 entry.1)
         (step view known) why read
 
     -- one entry more was read

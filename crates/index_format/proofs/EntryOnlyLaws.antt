@@ -58,7 +58,8 @@ anchor-only frame period index None bits cell rest fits read =
           ∙ sym (append_assoc (low_bits frame.height x) (low_bits frame.height y) rest)
           ∙ ap (λ x. low_bits frame.height x ++ low_bits frame.height y ++ rest) (sym x_is)
           ∙ ap (λ y. low_bits frame.height (cast_unsigned w64 (pos x)) ++ low_bits frame.height y ++ rest) (sym y_is)
-          ∙ ap (λ (cell : Cell). low_bits frame.height (cast_unsigned w64 cell.x) ++ low_bits frame.height (cast_unsigned w64 cell.y) ++ rest) same.0,
+          ∙ ap (λ (cell : Cell). low_bits frame.height (cast_unsigned w64 cell.x)
+          ++ low_bits frame.height (cast_unsigned w64 cell.y) ++ rest) same.0,
       subst (λ cell. is_in_grid frame.height cell ≡ true) same.0 (in_grid-from frame.height (cell_with (pos x) (pos y)) (record {
         left = omega (arith, ints);
         right = omega (arith, ints, x_put.1);

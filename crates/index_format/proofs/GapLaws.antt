@@ -104,7 +104,8 @@ objects-gapped = record {
       let first = bind-only (told_at flaw bits) _ (number, rest) read in
       let gap = first.0.0 in
       let told = told_at-only flaw gap bits first.0.1 first.1 in
-      let test = then-only (nat_le (least_after seen + gap) (2 ^ 32 - 1)) (flaw Field) (Ok (least_after seen + gap, first.0.1)) (number, rest) first.2 in
+      let test = then-only (nat_le (least_after seen + gap) (2 ^ 32 - 1)) (flaw Field)
+      (Ok (least_after seen + gap, first.0.1)) (number, rest) first.2 in
       let same = same-read (least_after seen + gap) number first.0.1 rest test.1 in
       let back : number - least_after seen ≡ gap = omega (arith, same.0) in
       record { low = omega (arith, same.0); high = grind (arith, nat_tests, test.0, same.0); taken = told.0 ∙ rw (back, same.1) refl };
@@ -127,7 +128,8 @@ values-gapped height small = record {
       let first = bind-only (told_at flaw bits) _ (number, rest) read in
       let gap = first.0.0 in
       let told = told_at-only flaw gap bits first.0.1 first.1 in
-      let test = else-only (leads_out height (least_after seen + gap)) (flaw Code) (Ok (least_after seen + gap, first.0.1)) (number, rest) first.2 in
+      let test = else-only (leads_out height (least_after seen + gap)) (flaw Code)
+      (Ok (least_after seen + gap, first.0.1)) (number, rest) first.2 in
       let same = same-read (least_after seen + gap) number first.0.1 rest test.1 in
       let back : number - least_after seen ≡ gap = omega (arith, same.0) in
       record {

@@ -75,7 +75,8 @@ module _ (view : RulesView) (base top : ℕ) where
       let middle = first.0.1 in
       let second = bind-only (told_at flaw middle) (judged more) (rule, rest) first.2 in
       let right = second.0.0 in
-      let last = else-only (is_flawed_under view top seen (rule_by more right)) (flaw kind.Rule) (Ok (rule_by more right, second.0.1)) (rule, rest) second.2 in
+      let last = else-only (is_flawed_under view top seen (rule_by more right)) (flaw kind.Rule)
+      (Ok (rule_by more right, second.0.1)) (rule, rest) second.2 in
       let same = same-read (rule_by more right) rule second.0.1 rest last.1 in
       read_rule before seen more right rule bits middle rest (told_at-only flaw more bits middle first.1).0
       ((told_at-only flaw right middle second.0.1 second.1).0 ∙ ap (λ rest. number_bits right ++ rest) same.1)
@@ -213,13 +214,15 @@ module _ (view : RulesView) where
   begun left count layer base seen all bits rest differ read =
       let top = length view.alphabet + length seen in
       let others : List (ℕ × ℕ) × List Bool → Element (List (ℕ × ℕ)) = λ told. layers_in left view count (suc layer) top told.0 told.1 in
-      let rules : ℕ → List Bool → Element (List (ℕ × ℕ)) = λ more after. items_at (layer_rule_in view base top (length seen)) (suc more) seen after in
+      let rules : ℕ → List Bool → Element (List (ℕ × ℕ)) =
+      λ more after. items_at (layer_rule_in view base top (length seen)) (suc more) seen after in
       let first = bind-only (told_at (flaw_at Layers 0 layer) bits)
       (λ told. if nat_lt (count - length seen) (suc told.0) then Err (flaw_at Layers 0 layer Field) else (rules told.0 told.1 >>= others))
       (all, rest) (rw differ at read) in
       let more = first.0.0 in
       let after = first.0.1 in
-      let test = else-only (nat_lt (count - length seen) (suc more)) (flaw_at Layers 0 layer Field) (rules more after >>= others) (all, rest) first.2 in
+      let test = else-only (nat_lt (count - length seen) (suc more)) (flaw_at Layers 0 layer Field)
+      (rules more after >>= others) (all, rest) first.2 in
       let second = bind-only (rules more after) others (all, rest) test.1 in
       record {
         more = more;

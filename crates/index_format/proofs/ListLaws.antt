@@ -27,7 +27,8 @@ each_listed {A} next spell P takes again = record {
   again = λ seen item rest all. again seen item rest (All-last P seen item all);
 }
   where
-    more : (seen : List A) (bytes : List ℕ) → All P seen → (read : Taken A) → IfOk read (λ item. Takes bytes (spell item.0) item.1 × P item.0)
+    more : (seen : List A) (bytes : List ℕ) → All P seen → (read : Taken A)
+        → IfOk read (λ item. Takes bytes (spell item.0) item.1 × P item.0)
         → IfOk read (λ item. Takes bytes (spell item.0) item.1 × All P (seen ++ item.0 ∷ []))
     more seen bytes all (Ok item) taken = (taken.0, All-snoc P seen item.0 all taken.1)
     more seen bytes all (Err flaw) taken = tt

@@ -54,7 +54,8 @@ module _ (parts : Parts) (valid : IsValid parts) (version : parts.frame.version 
   -- what is told of an object in a period is its block
   pub told-from : (number i : ℕ) (it : Logged) → block_in parts number i ≡ Some it →
       (block : Anchored) × (block_of (snapshot_in parts number) i ≡ Some block) × (logged_block parts number block ≡ it)
-  told-from number i it is = made-from (logged_block parts number) (block_of (snapshot_in parts number) i) it (sym (block_in-2 number i) ∙ is)
+  told-from number i it is =
+      made-from (logged_block parts number) (block_of (snapshot_in parts number) i) it (sym (block_in-2 number i) ∙ is)
 
   outer-is : (number i : ℕ) (it : Logged) → block_in parts number i ≡ Some it → object_in it ≡ i
   outer-is number i it is =
