@@ -2,6 +2,7 @@
 use Rattle.std.proofs.Common.{◌≡◌, ℕ, ℤ, pos, true, false, [], ◌∷◌, refl}
 use Rattle.track_types.specs.Chart.{ChartView, chart_with}
 use Rattle.track_types.specs.Quantities.{anchors_of, distinct}
+use Rattle.track_types.specs.declared.limit.TheConstants.{MAX_VERSION}
 use Rattle.track_types.specs.declared.row.Row.{Row}
 use Rattle.list_laws.specs.Grown.{table_of_rules}
 use Rattle.list_laws.specs.Ordered.{ordered, insert_in_order}
@@ -28,7 +29,7 @@ path = chart_with (row 7 (pos 0) (pos 10) (pos 10) ∷ row 7 (pos 1) (pos 11) (p
     (pos 11) ∷ []) 1 1 4
 
 path_parts : parts_of path ≡ record {
-  frame = record { version = 3; first = pos 0; span = 3; period = 4; height = 2; base = record { x = pos 10; y = pos 10 }; cell = 1; tick = 1 };
+  frame = record { version = MAX_VERSION; first = pos 0; span = 3; period = 4; height = 2; base = record { x = pos 10; y = pos 10 }; cell = 1; tick = 1 };
   objects = 7 ∷ [];
   alphabet = 2 ∷ 3 ∷ [];
   rules = [];

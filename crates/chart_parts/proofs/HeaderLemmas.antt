@@ -104,10 +104,10 @@ IsFrame-frame_of chart is =
     record {
       known = omega arith;
       newest = omega arith;
-      narrow = λ old. absurd (omega (arith, old));
       periods = is.period;
       some = omega arith;
       limit = (height_for-wide (extent_of rows) (omega arith)).0;
+      low = (height_for-wide (extent_of rows) (omega arith)).0;
       long = omega arith;
       short = is.span;
       begins = (least_near (λ row. row.instant) (λ row range. range.instant)).low;

@@ -1,10 +1,10 @@
 -- The bytes of index files, and of those that are upgraded.
-use Rattle.std.proofs.Common.{◌≡◌, ◌∙◌, ℕ, List, Result, Ok, Err, None, ap, sym, arith}
+use Rattle.std.proofs.Common.{◌≡◌, ◌∙◌, ℕ, List, Result, Ok, Err, None, ap, sym}
 use Rattle.std.specs.Prelude.{IfOk, OnOk}
-use Rattle.std.proofs.lemmas.Bool.{le-ltb}
 use Rattle.track_types.specs.declared.flaw.Flaw.{Flaw}
 use Rattle.track_types.specs.declared.parts.Parts.{Parts}
 use Rattle.index_file.specs.File.{file_bytes, IsFormed}
+use Rattle.index_file.proofs.FileLaws.{IsNewest-formed}
 use Rattle.track_types.specs.declared.format_fault.FormatFault.{FormatFault}
 use Rattle.track_index.specs.CheckFlaws.{check_flaw}
 use Rattle.track_index.specs.Opening.{IsFile}
@@ -43,7 +43,5 @@ IsUpgrade-file bytes newest parts file spelled = record {
   parts = parts;
   file = file;
   spelled = spelled;
-  same = λ last.
-      let ordered = file.formed.ordered (le-ltb parts.frame.version 3 (omega (arith, last))) in
-      spelled ∙ ap file_bytes (newest_of-newest parts (record { newest = last; ordered = ordered })) ∙ sym file.spelled;
+  same = λ last. spelled ∙ ap file_bytes (newest_of-newest parts (IsNewest-formed parts file.formed last)) ∙ sym file.spelled;
 }

@@ -1,8 +1,10 @@
 -- What is read of a file is formed and spelled so, and what is formed is read again.
-use Rattle.std.proofs.Common.{◌≡◌, ℕ, List, length, Result, Ok, Err, refl, sym, ◌∙◌, inl, inr, arith}
+use Rattle.std.proofs.Common.{◌≡◌, ℕ, false, List, length, Result, Ok, Err, refl, sym, ◌∙◌, inl, inr}
 use Rattle.std.specs.Prelude.{IfOk}
-use Rattle.std.proofs.lemmas.Bool.{cases_lt, lt-ltb, le-ltb}
+use Rattle.std.proofs.lemmas.Bool.{cases_Bool}
+use Rattle.track_types.specs.Spelling.{holds_parts, spelling_of}
 use Rattle.track_types.specs.declared.flaw.Flaw.{Flaw}
+use Rattle.track_types.specs.declared.limit.TheConstants.{MAX_VERSION}
 use Rattle.track_types.specs.declared.parts.Parts.{Parts}
 use Rattle.track_types.specs.declared.format_fault.FormatFault.{FormatFault}
 use Rattle.index_format.specs.Answers.{Gives}
@@ -26,13 +28,11 @@ use Rattle.index_file.specs.File.{file_bytes, parts_in, parts_stored, IsFormed, 
 parts_stored-formed : (held : Stored) → IsStored held → IsFormed (parts_stored held) × (stored_bytes held ≡ file_bytes (parts_stored held))
 unfolding file_bytes parts_of_outline
 parts_stored-formed (stored.Parts parts) old =
-    let says = lt-ltb parts.frame.version 3 (omega (arith, old.old)) in
-    (record { shaped = old.shaped; ordered = λ silent. absurd (let e = sym says ∙ silent in cc) }, rw says refl)
+    (record { shaped = old.shaped; ordered = λ no_parts. absurd (let e = sym old.old ∙ no_parts in cc) }, rw old.old refl)
 parts_stored-formed (stored.Outline outline) is =
-    let silent = le-ltb outline.frame.version 3 (omega (arith, is.version)) in
     let valid = IsValid-outline outline is in (
-      record { shaped = valid.shaped; ordered = λ silent. record { valid = valid; order = in_order-settled (length outline.alphabet) outline.rules is.rules } },
-      rw (silent, outline_of-parts outline is) refl,
+      record { shaped = valid.shaped; ordered = λ no_parts. record { valid = valid; order = in_order-settled (length outline.alphabet) outline.rules is.rules } },
+      rw (is.spelling, outline_of-parts outline is) refl,
     )
 
 -- parts that were read are formed, and the bytes are theirs
@@ -48,14 +48,12 @@ parts_in-takes bytes fits = of_stored (stored_in bytes) (stored_in-takes bytes f
 -- parts that are formed are read from their bytes
 pub parts_in-again : (parts : Parts) → IsFormed parts → parts_in (file_bytes parts) ≡ Ok parts
 unfolding parts_in file_bytes
-parts_in-again parts formed = elim (cases_lt parts.frame.version 3) [
-  | inl old ↦ let says = lt-ltb parts.frame.version 3 old in
-      rw (says, stored_in-again (stored.Parts parts) (record { shaped = formed.shaped; old = omega (arith, old) })) refl
-  | inr third ↦ let silent = le-ltb parts.frame.version 3 third in
-      let ordered = formed.ordered silent in
-      let newest : parts.frame.version ≡ 3 = omega (arith, third, formed.shaped.header.newest) in
+parts_in-again parts formed = elim (cases_Bool (holds_parts (spelling_of parts.frame.version))) [
+  | inl holds ↦ rw (holds, stored_in-again (stored.Parts parts) (record { shaped = formed.shaped; old = holds })) refl
+  | inr no_parts ↦
+      let ordered = formed.ordered no_parts in
       let order = settled-in_order (length parts.alphabet) parts.rules ordered.order in
-      rw (silent, stored_in-again (stored.Outline (outline_of parts)) (IsOutline-outline_of parts ordered.valid newest order), parts_of_outline-outline_of parts ordered.valid newest order) refl
+      rw (no_parts, stored_in-again (stored.Outline (outline_of parts)) (IsOutline-outline_of parts ordered.valid no_parts order), parts_of_outline-outline_of parts ordered.valid no_parts order) refl
 ]
 
 -- what was answered to bytes is as reading says
@@ -68,7 +66,18 @@ given_takes view bytes (Ok x) fits given = of_ok (parts_in bytes) (parts_in-take
     of_ok read holds is = rw is at holds
 given_takes view bytes (Err fault) fits given = tt
 
+-- a file of the newest version holds an outline
+pub newest-no_parts : (version : ℕ) → version ≡ MAX_VERSION → holds_parts (spelling_of version) ≡ false
+newest-no_parts version newest = rw newest refl
+
+-- parts that are formed are those of an index, if they are in the newest version
+pub IsNewest-formed : (parts : Parts) → IsFormed parts → parts.frame.version ≡ MAX_VERSION → IsNewest parts
+IsNewest-formed parts formed newest = record {
+  newest = newest;
+  ordered = formed.ordered (newest-no_parts parts.frame.version newest);
+}
+
 -- the file of parts in the newest version is that of their outline
 pub file_bytes-newest : (parts : Parts) → IsNewest parts → file_bytes parts ≡ outline_bytes (outline_of parts)
 unfolding file_bytes
-file_bytes-newest parts is = rw (le-ltb parts.frame.version 3 (omega (arith, is.newest))) refl
+file_bytes-newest parts is = rw (newest-no_parts parts.frame.version is.newest) refl

@@ -1,6 +1,7 @@
 -- The bytes of an index file, and the parts that bytes hold, in each version of the format.
 use Rattle.std.specs.Prelude.{◌≡◌, ℕ, false, if◌then◌else◌, List, length, Result, Ok}
 use Rattle.track_types.specs.PartsForm.{IsShaped}
+use Rattle.track_types.specs.Spelling.{holds_parts, spelling_of}
 use Rattle.track_types.specs.declared.flaw.Flaw.{Flaw}
 use Rattle.track_types.specs.declared.limit.TheConstants.{MAX_VERSION}
 use Rattle.track_types.specs.declared.parts.Parts.{Parts}
@@ -10,7 +11,7 @@ use Rattle.snapshots.specs.Bounded.{AreBounds}
 use Rattle.snapshots.specs.Parts.{rules_in}
 use Rattle.snapshots.specs.SoundParts.{IsValid}
 use Rattle.index_format.specs.Fields.{◌>>=◌}
-use Rattle.index_format.specs.Spelling.{bytes_of_parts, says_symbols}
+use Rattle.index_format.specs.Spelling.{bytes_of_parts}
 use Rattle.index_format.specs.OutlineFile.{outline_bytes}
 use Rattle.index_format.specs.Stored.{stored_in}
 use Rattle.index_format.specs.declared.stored.Stored.{Stored}
@@ -21,7 +22,8 @@ use Rattle.index_file.specs.declared.file.Found.{Found}
 
 -- the bytes of the index file that holds parts, in their version
 unfoldable pub file_bytes : Parts → List ℕ
-file_bytes parts = if says_symbols parts.frame.version then bytes_of_parts parts else outline_bytes (outline_of parts)
+file_bytes parts =
+    if holds_parts (spelling_of parts.frame.version) then bytes_of_parts parts else outline_bytes (outline_of parts)
 
 -- the parts that are stored
 abbrev pub parts_stored : Stored → Parts
@@ -39,10 +41,10 @@ pub record IsOrdered (parts : Parts) : Type 0 where
   pub valid : IsValid parts
   pub order : IsSettled (length parts.alphabet) parts.rules
 
--- parts have the form that a file of their version holds; in version 3 they are those of an index, with their rules in order
+-- parts have the form that a file of their version holds; if that is an outline, they are those of an index, with their rules in order
 pub record IsFormed (parts : Parts) : Type 0 where
   pub shaped : IsShaped parts
-  pub ordered : says_symbols parts.frame.version ≡ false → IsOrdered parts
+  pub ordered : holds_parts (spelling_of parts.frame.version) ≡ false → IsOrdered parts
 
 -- parts are those of an index in the newest version
 pub record IsNewest (parts : Parts) : Type 0 where

@@ -1,4 +1,5 @@
-ghost use Rattle.std.specs.Prelude.{◌≡◌, ◌<◌, ◌≤◌, IfOk, IfErr, IfNone, IfSome, Ok, length};
+ghost use Rattle.std.specs.Prelude.{◌≡◌, ◌<◌, ◌≤◌, true, IfOk, IfErr, IfNone, IfSome, Ok, length};
+ghost use Rattle.track_types.specs.Spelling.{holds_parts, spelling_of};
 ghost use Rattle.track_types.specs.declared.limit.TheConstants.{MAX_INDEX};
 ghost use Rattle.track_types.specs.declared.parts.Parts as declared;
 ghost use Rattle.index_format.specs.Answers.{Gives, IsFormatFault};
@@ -16,7 +17,7 @@ use track_types::{Memory, Parts};
 pub struct FileParts {
     /// The parts.
     pub parts: Parts,
-    /// What was found, where the file is of version 3. Then the parts are those of an index.
+    /// What was found, where the file holds an outline. Then the parts are those of an index.
     pub found: Option<Found>,
 }
 
@@ -32,7 +33,7 @@ pub struct Found {
 /// The parts that the bytes of an index file hold, in any version. There are at most `MAX_INDEX` bytes, and all are read.
 ///
 /// `FormatFault::Flaw` is the first flaw from the front. Parts that have the form of an index are decoded from their own
-/// bytes alone. It takes memory for the parts and, for a file of version 3, for its blocks and their logs once more.
+/// bytes alone. It takes memory for the parts and, for an outline, for its blocks and their logs once more.
 pub fn decode(alloc: Global, bytes: &[u8]) -> Result<Parts, FormatFault>
     requires { length bytes.now ≤ MAX_INDEX }
     ensures ok { IfOk result (λ parts. parts_in bytes.now ≡ Ok parts) }
@@ -46,7 +47,7 @@ pub fn decode(alloc: Global, bytes: &[u8]) -> Result<Parts, FormatFault>
     Ok(read.parts)
 }
 
-/// The parts that the bytes of an index file hold, as `decode` reads them, with what is found of them in a file of version 3.
+/// The parts that the bytes of an index file hold, as `decode` reads them, with what is found of them in an outline.
 /// By this an index is opened without a second look at its rules and logs.
 pub fn decode_found(alloc: Global, bytes: &[u8]) -> Result<FileParts, FormatFault>
     requires { length bytes.now ≤ MAX_INDEX }
@@ -57,7 +58,8 @@ pub fn decode_found(alloc: Global, bytes: &[u8]) -> Result<FileParts, FormatFaul
         → Gives (λ read. read.parts) result (Ok parts) }
     ensures flaw { IfErr result (IsFormatFault (parts_in bytes.now)) }
     ensures found { IfOk result (λ read. IfSome read.found (IsFoundOf read.parts)) }
-    ensures older { IfOk result (λ read. IfNone read.found (read.parts.frame.version < 3)) }
+    ensures older { IfOk result
+        (λ read. IfNone read.found (holds_parts (spelling_of read.parts.frame.version) ≡ true)) }
 {
     read_file(alloc, bytes)
 }
@@ -68,7 +70,8 @@ fn read_file(alloc: Global, bytes: &[u8]) -> Result<FileParts, FormatFault>
     requires { length bytes.now ≤ MAX_INDEX }
     ensures parts { Gives (λ read. read.parts) result (parts_in bytes.now) }
     ensures found { IfOk result (λ read. IfSome read.found (IsFoundOf read.parts)) }
-    ensures older { IfOk result (λ read. IfNone read.found (read.parts.frame.version < 3)) }
+    ensures older { IfOk result
+        (λ read. IfNone read.found (holds_parts (spelling_of read.parts.frame.version) ≡ true)) }
 {
     let Decoded {
         stored,

@@ -4,28 +4,29 @@ use Rattle.std.specs.Prelude.{IfOk, nat_le, neg_ℤ, ◌≤ℤ◌, ◌+ℤ◌}
 use Rattle.std.specs.Int.{Width, w32, w64, cast_signed, cast_unsigned, div_ceil}
 use Rattle.std.specs.Int.Signed.{le_z}
 use Rattle.std.specs.Str.{bytes_eq}
-use Rattle.std.proofs.lemmas.Bool.{cases_lt, lt-ltb, le-ltb, and_parts, and_from}
+use Rattle.std.proofs.lemmas.Bool.{cases_Bool, le-ltb, and_parts, and_from}
 use Rattle.std.proofs.lemmas.Bool.Decides.{nat_tests}
 use Rattle.std.proofs.lemmas.Int.{ints, of_z-to_z, to_z-of_z, fits_signed_from_abs}
 use Rattle.std.proofs.Math.Facts.{Fits-of_z}
 use Rattle.std.proofs.lemmas.List.{take-append-drop}
 use Rattle.std.proofs.lemmas.Slice.Eq.{bytes_eq-Decides}
-use Rattle.track_types.specs.Frame.{IsFrame}
 use Rattle.track_types.specs.Near.{IsNear}
-use Rattle.track_types.specs.declared.frame.Frame.{Frame}
 use Rattle.track_types.specs.Limits.{limit_of}
+use Rattle.track_types.specs.Spelling.{greatest_height, holds_parts, spelling_of}
 use Rattle.track_types.specs.declared.limit.LimitKind.TheVariants as limits
-use Rattle.track_types.specs.declared.limit.TheConstants.{MAX_HEIGHT, MAX_NARROW_HEIGHT, MAX_PERIOD, MAX_RESOLUTION, MAX_VERSION}
+use Rattle.track_types.specs.declared.limit.TheConstants.{MAX_PERIOD, MAX_RESOLUTION, MAX_VERSION}
 use Rattle.track_types.specs.declared.flaw.Kind.TheVariants.{Short}
+use Rattle.track_types.specs.declared.spelling.Spelling.{Spelling}
 use Rattle.track_types.proofs.RegionLemmas.{le_z-from, le_z-is}
+use Rattle.track_types.proofs.SpellingLemmas.{greatest_height-limit}
 use Rattle.index_format.specs.declared.header.Header.{Header}
 use Rattle.index_format.specs.declared.header.Sizes.{Sizes}
-use Rattle.index_format.specs.Spelling.{magic, short_bytes, long_bytes, signed_bytes, says_symbols, symbols_bytes, size_bytes, fields_bytes, header_bytes, sizes_of}
+use Rattle.index_format.specs.Spelling.{magic, short_bytes, long_bytes, signed_bytes, symbols_bytes, size_bytes, fields_bytes, header_bytes, sizes_of}
 use Rattle.track_types.specs.declared.format_fault.FormatFault.{FormatFault}
 use Rattle.index_format.specs.Answers.{Gives}
 use Rattle.index_format.specs.Headers.{AreSizes, IsHeader}
 use Rattle.index_format.specs.Fields.{Taken, number_at}
-use Rattle.index_format.specs.Reading.{header_flaw, is_in_range, is_span, is_first, is_near, far, greatest_height, version_at, field_at, signed_at, symbols_at, sizes_at, long_place, fields_at, header_at}
+use Rattle.index_format.specs.Reading.{header_flaw, is_in_range, is_span, is_first, is_near, far, version_at, field_at, signed_at, symbols_at, sizes_at, long_place, fields_at, header_at}
 use Rattle.index_format.proofs.BitLemmas.{IsBytes, IsBytes-drop}
 use Rattle.index_format.proofs.Laws.{Takes, Takes-then, Takes-text, then_ok, test_ok, guard_ok, else_ok, IsWide, wide32, wide64, number_at-takes, number_at-again}
 
@@ -109,33 +110,15 @@ version_at-again (suc (suc (suc zero))) rest known newest =
     rw enough refl
 version_at-again (suc (suc (suc (suc more)))) rest known newest = absurd (omega arith)
 
--- the greatest height of any version
-height_limit : (version height : ℕ) → height ≤ greatest_height version → height ≤ MAX_HEIGHT
-height_limit version height low = elim (cases_lt version 2) [
-  | inl first ↦ let limit = rw (lt-ltb version 2 first) at low in omega (arith, limit)
-  | inr later ↦ rw (le-ltb version 2 later) at low
-]
-
--- that of version 1
-height_narrow : (version height : ℕ) → height ≤ greatest_height version → version ≡ 1 → height ≤ MAX_NARROW_HEIGHT
-height_narrow version height low first = rw first at low
-
--- a header's height is that of its version
-pub height_within : (frame : Frame) → IsFrame frame → frame.height ≤ greatest_height frame.version
-height_within frame is = elim (cases_lt frame.version 2) [
-  | inl first ↦ rw (lt-ltb frame.version 2 first) (is.narrow (omega (arith, is.known)))
-  | inr later ↦ rw (le-ltb frame.version 2 later) is.limit
-]
-
 -- how many symbols there are, as it was read
-symbols_at-takes : (version : ℕ) (bytes : List ℕ) → IsBytes bytes
-    → IfOk (symbols_at version bytes) (λ n. Takes bytes (symbols_bytes version n.0) n.1
-    × (n.0 ≤ limit_of limits.Symbols) × (says_symbols version ≡ false → n.0 ≡ 0))
+symbols_at-takes : (spelling : Spelling) (bytes : List ℕ) → IsBytes bytes
+    → IfOk (symbols_at spelling bytes) (λ n. Takes bytes (symbols_bytes spelling n.0) n.1
+    × (n.0 ≤ limit_of limits.Symbols) × (holds_parts spelling ≡ false → n.0 ≡ 0))
 unfolding symbols_at symbols_bytes
-symbols_at-takes version bytes fits = elim (cases_lt version 3) [
-  | inl before ↦ let says = lt-ltb version 3 before in
-      rw says (then_ok_of (field_at w32 7 (is_in_range 0 many) bytes) (field_at-takes wide32 7 (is_in_range 0 many) bytes fits))
-  | inr later ↦ rw (le-ltb version 3 later) (record { parts = refl; fits = fits }, omega arith, λ untold. refl)
+symbols_at-takes spelling bytes fits = elim (cases_Bool (holds_parts spelling)) [
+  | inl holds ↦
+      rw holds (then_ok_of (field_at w32 7 (is_in_range 0 many) bytes) (field_at-takes wide32 7 (is_in_range 0 many) bytes fits))
+  | inr silent ↦ rw silent (record { parts = refl; fits = fits }, omega arith, λ untold. refl)
 ]
   where
     many : ℕ
@@ -147,22 +130,22 @@ symbols_at-takes version bytes fits = elim (cases_lt version 3) [
     then_ok_of (Err flaw) given = tt
 
 -- how many symbols there are is read again
-symbols_at-again : (version symbols : ℕ) (rest : List ℕ) → symbols ≤ limit_of limits.Symbols
-    → (says_symbols version ≡ false → symbols ≡ 0) → symbols_at version (symbols_bytes version symbols ++ rest) ≡ Ok (symbols, rest)
+symbols_at-again : (spelling : Spelling) (symbols : ℕ) (rest : List ℕ) → symbols ≤ limit_of limits.Symbols
+    → (holds_parts spelling ≡ false → symbols ≡ 0) → symbols_at spelling (symbols_bytes spelling symbols ++ rest) ≡ Ok (symbols, rest)
 unfolding symbols_at symbols_bytes
-symbols_at-again version symbols rest few untold = elim (cases_lt version 3) [
-  | inl before ↦ let many = limit_of limits.Symbols in
-      rw (lt-ltb version 3 before) (field_at-again wide32 7 (is_in_range 0 many) symbols rest (omega (arith, few))
+symbols_at-again spelling symbols rest few untold = elim (cases_Bool (holds_parts spelling)) [
+  | inl holds ↦ let many = limit_of limits.Symbols in
+      rw holds (field_at-again wide32 7 (is_in_range 0 many) symbols rest (omega (arith, few))
       (is_in_range-true 0 many symbols (omega arith) few))
-  | inr later ↦ let silent = le-ltb version 3 later in rw (silent, untold silent) refl
+  | inr silent ↦ rw (silent, untold silent) refl
 ]
 
 -- sizes that were read are spelled so
-sizes_at-takes : (version : ℕ) (bytes : List ℕ) → IsBytes bytes
-    → IfOk (sizes_at version bytes) (λ s. Takes bytes (size_bytes version s.0) s.1 × AreSizes version s.0)
+sizes_at-takes : (spelling : Spelling) (bytes : List ℕ) → IsBytes bytes
+    → IfOk (sizes_at spelling bytes) (λ s. Takes bytes (size_bytes spelling s.0) s.1 × AreSizes spelling s.0)
 unfolding sizes_at size_bytes
-sizes_at-takes version bytes fits =
-    let high = greatest_height version in
+sizes_at-takes spelling bytes fits =
+    let high = greatest_height spelling in
     let many = limit_of limits.Symbols in
     then_ok _ _ (field_at w32 1 (is_in_range 1 MAX_PERIOD) bytes) (field_at-takes wide32 1 (is_in_range 1 MAX_PERIOD) bytes fits) (λ period t1.
     then_ok _ _ (field_at w32 2 (is_in_range 1 high) period.1) (field_at-takes wide32 2 (is_in_range 1 high) period.1 t1.0.fits) (λ height t2.
@@ -170,7 +153,7 @@ sizes_at-takes version bytes fits =
     then_ok _ _ (field_at w32 4 (is_span objects.0 period.0) objects.1) (field_at-takes wide32 4 (is_span objects.0 period.0) objects.1 t3.0.fits) (λ span t4.
     then_ok _ _ (field_at w32 5 (is_in_range 0 many) span.1) (field_at-takes wide32 5 (is_in_range 0 many) span.1 t4.0.fits) (λ alphabet t5.
     then_ok _ _ (field_at w32 6 (is_in_range 0 many) alphabet.1) (field_at-takes wide32 6 (is_in_range 0 many) alphabet.1 t5.0.fits) (λ rules t6.
-    then_ok _ _ (symbols_at version rules.1) (symbols_at-takes version rules.1 t6.0.fits) (λ symbols t7.
+    then_ok _ _ (symbols_at spelling rules.1) (symbols_at-takes spelling rules.1 t6.0.fits) (λ symbols t7.
     let blocks = objects.0 * div_ceil span.0 period.0 in
     let both = and_parts (is_in_range 1 (limit_of limits.Span) span.0) (nat_le blocks (limit_of limits.Blocks)) t4.2 in (
       Takes-text _ (simp append_assoc refl)
@@ -189,27 +172,27 @@ sizes_at-takes version bytes fits =
     ))))))))
 
 -- sizes that are spelled so are read
-sizes_at-again : (version : ℕ) (sizes : Sizes) (rest : List ℕ) → AreSizes version sizes
-    → sizes_at version (size_bytes version sizes ++ rest) ≡ Ok (sizes, rest)
+sizes_at-again : (spelling : Spelling) (sizes : Sizes) (rest : List ℕ) → AreSizes spelling sizes
+    → sizes_at spelling (size_bytes spelling sizes ++ rest) ≡ Ok (sizes, rest)
 unfolding sizes_at size_bytes
-sizes_at-again version sizes rest are =
-    let high = greatest_height version in
+sizes_at-again spelling sizes rest are =
+    let high = greatest_height spelling in
     let many = limit_of limits.Symbols in
-    let r7 = symbols_bytes version sizes.symbols ++ rest in
+    let r7 = symbols_bytes spelling sizes.symbols ++ rest in
     let r6 = short_bytes sizes.rules ++ r7 in
     let r5 = short_bytes sizes.alphabet ++ r6 in
     let r4 = short_bytes sizes.span ++ r5 in
     let r3 = short_bytes sizes.objects ++ r4 in
     let r2 = short_bytes sizes.height ++ r3 in
-    let text : size_bytes version sizes ++ rest ≡ short_bytes sizes.period ++ r2 = simp append_assoc refl in
+    let text : size_bytes spelling sizes ++ rest ≡ short_bytes sizes.period ++ r2 = simp append_assoc refl in
     let blocks = sizes.objects * div_ceil sizes.span sizes.period in
     let few : nat_le blocks (limit_of limits.Blocks) ≡ true = grind (arith, nat_tests, are.blocks) in
     let span = and_from (is_in_range 1 (limit_of limits.Span) sizes.span) (nat_le blocks (limit_of limits.Blocks))
     (is_in_range-true 1 (limit_of limits.Span) sizes.span are.span.0 are.span.1) few in
-    ap (sizes_at version) text ∙ rw (
+    ap (sizes_at spelling) text ∙ rw (
       field_at-again wide32 1 (is_in_range 1 MAX_PERIOD) sizes.period r2 (omega (arith, are.period.1))
           (is_in_range-true 1 MAX_PERIOD sizes.period are.period.0 are.period.1),
-      field_at-again wide32 2 (is_in_range 1 high) sizes.height r3 (omega (arith, height_limit version sizes.height are.height.1))
+      field_at-again wide32 2 (is_in_range 1 high) sizes.height r3 (omega (arith, are.height.1, greatest_height-limit spelling))
           (is_in_range-true 1 high sizes.height are.height.0 are.height.1),
       field_at-again wide32 3 (is_in_range 1 (limit_of limits.Objects)) sizes.objects r4 (omega (arith, are.objects.1))
           (is_in_range-true 1 (limit_of limits.Objects) sizes.objects are.objects.0 are.objects.1),
@@ -218,7 +201,7 @@ sizes_at-again version sizes rest are =
           (is_in_range-true 0 many sizes.alphabet (omega arith) are.alphabet),
       field_at-again wide32 6 (is_in_range 0 many) sizes.rules r7 (omega (arith, are.rules))
           (is_in_range-true 0 many sizes.rules (omega arith) are.rules),
-      symbols_at-again version sizes.symbols rest are.symbols are.untold,
+      symbols_at-again spelling sizes.symbols rest are.symbols are.untold,
     ) refl
 
 -- a number at most `far` from 0 fits in eight bytes
@@ -243,8 +226,9 @@ pub fields_at-takes : (version : ℕ) → 1 ≤ version → version ≤ MAX_VERS
 unfolding fields_at fields_bytes
 fields_at-takes version known newest bytes fits =
     let units = is_in_range 1 MAX_RESOLUTION in
-    let place = long_place version in
-    then_ok _ _ (sizes_at version bytes) (sizes_at-takes version bytes fits) (λ sizes t1.
+    let spelling = spelling_of version in
+    let place = long_place spelling in
+    then_ok _ _ (sizes_at spelling bytes) (sizes_at-takes spelling bytes fits) (λ sizes t1.
     then_ok _ _ (signed_at place (is_first sizes.0.span) sizes.1) (signed_at-takes place (is_first sizes.0.span) sizes.1 t1.0.fits) (λ first t2.
     then_ok _ _ (signed_at (place + 1) is_near first.1) (signed_at-takes (place + 1) is_near first.1 t2.0.fits) (λ x t3.
     then_ok _ _ (signed_at (place + 2) is_near x.1) (signed_at-takes (place + 2) is_near x.1 t3.0.fits) (λ y t4.
@@ -262,8 +246,8 @@ fields_at-takes version known newest bytes fits =
           known = known;
           newest = newest;
           some = are.height.0;
-          limit = height_limit version sizes.0.height are.height.1;
-          narrow = height_narrow version sizes.0.height are.height.1;
+          limit = omega (arith, are.height.1, greatest_height-limit spelling);
+          low = are.height.1;
           long = are.span.0;
           short = are.span.1;
           begins = le_z-is (neg_ℤ far) first.0 begin.0;
@@ -285,18 +269,19 @@ unfolding fields_at fields_bytes
 fields_at-again header rest is =
     let frame = header.frame in
     let units = is_in_range 1 MAX_RESOLUTION in
-    let place = long_place frame.version in
+    let spelling = spelling_of frame.version in
+    let place = long_place spelling in
     let r6 = long_bytes frame.tick ++ rest in
     let r5 = long_bytes frame.cell ++ r6 in
     let r4 = signed_bytes frame.base.y ++ r5 in
     let r3 = signed_bytes frame.base.x ++ r4 in
     let r2 = signed_bytes frame.first ++ r3 in
-    let text : fields_bytes header ++ rest ≡ size_bytes frame.version (sizes_of header) ++ r2 = simp append_assoc refl in
+    let text : fields_bytes header ++ rest ≡ size_bytes spelling (sizes_of header) ++ r2 = simp append_assoc refl in
     let begins = and_from (le_z (neg_ℤ far) frame.first) (le_z (frame.first +ℤ pos (frame.span - 1)) far)
     (le_z-from (neg_ℤ far) frame.first is.frame.begins)
     (le_z-from (frame.first +ℤ pos (frame.span - 1)) far is.frame.ends) in
     ap (fields_at frame.version) text ∙ rw (
-      sizes_at-again frame.version (sizes_of header) r2 is.sizes,
+      sizes_at-again spelling (sizes_of header) r2 is.sizes,
       signed_at-again place (is_first frame.span) frame.first r3
           (near_fits frame.first is.frame.begins (first_before frame.first (frame.span - 1) is.frame.ends)) begins,
       signed_at-again (place + 1) is_near frame.base.x r4 (near_fits frame.base.x is.frame.columns.low is.frame.columns.high)

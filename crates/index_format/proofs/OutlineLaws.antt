@@ -1,4 +1,4 @@
--- What follows the header in version 3: what is read is an outline and spelled so, and an outline is read again.
+-- What follows the header in a file that holds an outline: what is read is an outline and spelled so, and an outline is read again.
 use Rattle.std.proofs.Common.{◌≡◌, ℕ, ◌+◌, ◌-◌, ◌*◌, ◌/◌, ◌%◌, ◌^◌, ◌<◌, ◌≤◌, false, nat_lt, Bool, List, [], ◌++◌, length, take, drop, Result, Ok, Err, refl, sym, ap, ◌∙◌, arith, append_assoc}
 use Rattle.std.specs.Prelude.{IfOk, None}
 use Rattle.std.specs.List.{range_with_len}
@@ -11,6 +11,7 @@ use Rattle.track_types.specs.declared.flaw.Flaw.{Flaw}
 use Rattle.track_types.specs.declared.flaw.Kind.TheVariants.{Pad, Extra}
 use Rattle.track_types.specs.declared.flaw.Section.TheVariants.{End}
 use Rattle.track_types.specs.Limits.{limit_of}
+use Rattle.track_types.specs.Spelling.{holds_parts, spelling_of}
 use Rattle.track_types.specs.declared.limit.LimitKind.TheVariants.{Symbols}
 use Rattle.index_format.specs.declared.header.Header.{Header}
 use Rattle.index_format.specs.declared.outline.Outline.{Outline}
@@ -24,7 +25,6 @@ use Rattle.index_format.specs.IsOutline.{IsOutline}
 use Rattle.index_format.proofs.BitLemmas.{IsBytes, length-bits_in, length-bit_bytes, take-bits_in, spare-bit_bytes, bit_bytes-take}
 use Rattle.index_format.proofs.Laws.{then_ok, guard_ok}
 use Rattle.index_format.specs.Headers.{IsHeader}
-use Rattle.index_format.proofs.HeaderLaws.{height_within}
 use Rattle.index_format.proofs.GapLaws.{gaps-again, gaps-only, objects-gapped, values-gapped}
 use Rattle.index_format.proofs.AscentLemmas.{small_values, ascends-rises, objects-ascend, objects-short, values-ascend, values-near}
 use Rattle.index_format.proofs.LayerLaws.{rules-again}
@@ -39,7 +39,7 @@ outline_header-is outline is =
       frame = frame;
       sizes = record {
         period = (frame.periods.some, frame.periods.limit);
-        height = (frame.some, height_within outline.frame frame);
+        height = (frame.some, frame.low);
         objects = (is.some, is.few);
         span = (frame.long, frame.short);
         blocks = is.periods;
@@ -134,10 +134,10 @@ header-same : (h : Header) (objects alphabet rules : ℕ) → objects ≡ h.obje
 header-same h objects alphabet rules objects_are values_are rules_are none = rw (objects_are, values_are, rules_are, ← none) refl
 
 -- what was read is an outline, and header and bytes are its
-pub outline_after-takes : (h : Header) → IsHeader h → h.frame.version ≡ 3 → (bytes : List ℕ) → IsBytes bytes
+pub outline_after-takes : (h : Header) → IsHeader h → holds_parts (spelling_of h.frame.version) ≡ false → (bytes : List ℕ) → IsBytes bytes
     → IfOk (outline_after h bytes) (λ outline. IsOutline outline × (outline_header outline ≡ h) × (bytes ≡ bit_bytes (outline_bits outline)))
 unfolding outline_after outline_bits gap_bits
-outline_after-takes h is third bytes fits =
+outline_after-takes h is silent bytes fits =
     let frame = h.frame in
     let bits = bits_in bytes in
     let greatest = square (2 * reach_limit frame.height + 1) in
@@ -177,7 +177,7 @@ outline_after-takes h is third bytes fits =
     of_objects ∙ ap (λ tail. gap_bits objects.0 ++ tail) (of_values ∙ ap (λ tail. gap_bits alphabet.0 ++ tail)
     (r.bits_are ∙ ap (λ tail. rules_bits (length alphabet.0) rules.0 ++ tail) of_blocks)) ∙ (simp append_assoc refl) in (
       record {
-        version = third;
+        spelling = silent;
         header = is.frame;
         some = rw many are.objects.0;
         few = rw many are.objects.1;
@@ -196,6 +196,6 @@ outline_after-takes h is third bytes fits =
         few_symbols = b.few_symbols;
       },
       header-same h (length objects.0) (length alphabet.0) (length rules.0) many values r.long
-          (are.untold (le-ltb frame.version 3 (omega (arith, third)))),
+          (are.untold silent),
       bytes-spelled bytes (outline_bits outline) told.1 fits split spare,
     ))))))

@@ -1,4 +1,4 @@
--- What follows the header in version 3, read list by list.
+-- What follows the header in a file that holds an outline, read list by list.
 use Rattle.std.proofs.Common.{◌≡◌, ℕ, ◌%◌, ◌/◌, nat_lt, Bool, List, [], Result, Ok, length, take, refl, ◌∙◌, inl, inr}
 use Rattle.std.specs.Prelude.{⊤}
 use Rattle.std.proofs.lemmas.Bool.{cases_Bool}

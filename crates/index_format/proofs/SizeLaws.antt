@@ -1,5 +1,5 @@
--- How many bytes a file of version 3 has at most: fewer than an index may have.
-use Rattle.std.proofs.Common.{◌≡◌, ℕ, ◌+◌, ◌*◌, ◌-◌, ◌^◌, ◌<◌, ◌≤◌, List, ◌++◌, length, ap, ◌∙◌, arith}
+-- How many bytes a file that holds an outline has at most: fewer than an index may have.
+use Rattle.std.proofs.Common.{◌≡◌, ℕ, ◌+◌, ◌*◌, ◌-◌, ◌^◌, ◌<◌, ◌≤◌, List, ◌++◌, length, refl, ap, ◌∙◌, arith}
 use Rattle.std.specs.List.{range_with_len}
 use Rattle.std.proofs.lemmas.List.{length-append}
 use Rattle.spiral_code.specs.Spiral.{square}
@@ -19,7 +19,7 @@ use Rattle.index_format.proofs.AscentLemmas.{area-small, objects-ascend, values-
 use Rattle.index_format.proofs.BitLemmas.{length-bit_bytes}
 use Rattle.index_format.proofs.BlockSizeLemmas.{blocks-few, blocks_bits-short}
 use Rattle.index_format.proofs.LayerBits.{rules_bits-layers}
-use Rattle.index_format.proofs.LengthLaws.{header_length, length-header_bytes}
+use Rattle.index_format.proofs.LengthLaws.{length-header_bytes}
 use Rattle.index_format.proofs.SizeLemmas.{gaps_bits-short, layers_bits-short, number_bits-short}
 use Rattle.index_format.proofs.SplitLemmas.{in_order-layers}
 
@@ -81,7 +81,8 @@ module _ (outline : Outline) (is : IsOutline outline) where
   pub outline_bytes-short : length (outline_bytes outline) ≤ 988364872
   unfolding outline_bytes
   outline_bytes-short =
-      let header = length-header_bytes (outline_header outline) ∙ ap header_length is.version in
+      let header : length (header_bytes (outline_header outline)) ≡ 72 =
+      length-header_bytes (outline_header outline) ∙ rw is.spelling refl in
       omega (
         arith,
         length-append (header_bytes (outline_header outline)) (bit_bytes (outline_bits outline)),

@@ -1,7 +1,8 @@
 -- The whole file: what is read has the form of an index and is spelled so, and what has it is read again.
-use Rattle.std.proofs.Common.{◌≡◌, ℕ, List, ◌++◌, Result, Ok, Err, refl, sym, ap, ◌∙◌, inl, inr, arith}
+use Rattle.std.proofs.Common.{◌≡◌, ℕ, List, ◌++◌, Result, Ok, Err, refl, sym, ap, ◌∙◌, inl, inr}
 use Rattle.std.specs.Prelude.{IfOk}
-use Rattle.std.proofs.lemmas.Bool.{cases_lt, lt-ltb, le-ltb}
+use Rattle.std.proofs.lemmas.Bool.{cases_Bool}
+use Rattle.track_types.specs.Spelling.{holds_parts, spelling_of}
 use Rattle.track_types.specs.declared.flaw.Flaw.{Flaw}
 use Rattle.track_types.specs.declared.format_fault.FormatFault.{FormatFault}
 use Rattle.index_format.specs.declared.header.Header.{Header}
@@ -23,12 +24,12 @@ use Rattle.index_format.proofs.OutlineLaws.{outline_after-takes, outline_after-a
 stored_after-takes : (bytes : List ℕ) (h : Header) (rest : List ℕ) → Takes bytes (header_bytes h) rest → IsHeader h
     → IfOk (stored_after h rest) (λ stored. IsStored stored × (bytes ≡ stored_bytes stored))
 unfolding stored_after bytes_of_parts outline_bytes
-stored_after-takes bytes h rest taken is = elim (cases_lt h.frame.version 3) [
-  | inl old ↦ let says = lt-ltb h.frame.version 3 old in
-      rw says (then_ok _ _ (parts_after h rest) (parts_after-takes h is says rest taken.fits) (λ parts read.
+stored_after-takes bytes h rest taken is = elim (cases_Bool (holds_parts (spelling_of h.frame.version))) [
+  | inl holds ↦
+      rw holds (then_ok _ _ (parts_after h rest) (parts_after-takes h is holds rest taken.fits) (λ parts read.
       (read.0, taken.parts ∙ ap (λ head. header_bytes head ++ rest) (sym read.1) ∙ ap (λ tail. header_bytes (header_of parts) ++ tail) read.2)))
-  | inr third ↦ let silent = le-ltb h.frame.version 3 third in
-      rw silent (then_ok _ _ (outline_after h rest) (outline_after-takes h is (omega (arith, third, is.frame.newest)) rest taken.fits)
+  | inr silent ↦
+      rw silent (then_ok _ _ (outline_after h rest) (outline_after-takes h is silent rest taken.fits)
       (λ outline read. (
         read.0,
         taken.parts ∙ ap (λ head. header_bytes head ++ rest) (sym read.1)
@@ -46,11 +47,9 @@ stored_in-takes bytes fits =
 pub stored_in-again : (stored : Stored) → IsStored stored → stored_in (stored_bytes stored) ≡ Ok stored
 unfolding stored_in stored_after bytes_of_parts outline_bytes
 stored_in-again (Parts parts) old =
-    let says = lt-ltb parts.frame.version 3 (omega (arith, old.old)) in
-    rw (header_at-again (header_of parts) (parts_bytes parts) (header_of-parts parts old), says, parts_after-again parts old) refl
+    rw (header_at-again (header_of parts) (parts_bytes parts) (header_of-parts parts old), old.old, parts_after-again parts old) refl
 stored_in-again (Outline outline) is =
-    let silent = le-ltb outline.frame.version 3 (omega (arith, is.version)) in
-    rw (header_at-again (outline_header outline) _ (outline_header-is outline is), silent, outline_after-again outline is) refl
+    rw (header_at-again (outline_header outline) _ (outline_header-is outline is), is.spelling, outline_after-again outline is) refl
 
 -- what was answered to bytes, seen by view, is as reading says
 pub given_takes : {X : Type 0} (view : X → Stored) (bytes : List ℕ) (answer : Result X FormatFault) → IsBytes bytes

@@ -2,11 +2,13 @@
 use Rattle.std.specs.Prelude.{ℕ, zero, suc, ◌-◌, ◌*◌, Bool, ◌||◌, List, [], ◌∷◌, ◌++◌, length, take, drop, Result, Ok, Err, nat_lt, ◌==◌, if◌then◌else◌, slice_index}
 use Rattle.std.specs.Int.{Width, w32, byte_len, from_le_bytes}
 use Rattle.packed_bits.specs.Bits.{number_of, ones_of}
+use Rattle.track_types.specs.Spelling.{packs_symbols}
 use Rattle.track_types.specs.declared.flaw.Flaw.{Flaw}
 use Rattle.track_types.specs.declared.flaw.Section.{Section}
 use Rattle.track_types.specs.declared.flaw.Kind.{Kind}
 use Rattle.track_types.specs.declared.flaw.Kind.TheVariants.{Short, Order, Pad}
 use Rattle.track_types.specs.declared.flaw.Section.TheVariants.{Rules, Log}
+use Rattle.track_types.specs.declared.spelling.Spelling.{Spelling}
 use Rattle.index_format.specs.Spelling.{bits_in, bytes_for}
 
 -- what is taken from the front, and the bytes after it; or a flaw
@@ -80,7 +82,7 @@ packed_at width count bytes = do
   bits ← bits_at Log 0 (width * count) bytes
   Ok (numbers_from_bits width count bits.0, bits.1)
 
--- the symbols of all logs: of four bytes each in version 1, after it of so many bits each
-unfoldable pub log_at : ℕ → ℕ → ℕ → List ℕ → Taken (List ℕ)
-log_at version width count bytes =
-    if nat_lt version 2 then items_at (short_at Log 0) count [] bytes else packed_at width count bytes
+-- the symbols of all logs: of so many bits each where they are packed, else of four bytes
+unfoldable pub log_at : Spelling → ℕ → ℕ → List ℕ → Taken (List ℕ)
+log_at spelling width count bytes =
+    if packs_symbols spelling then packed_at width count bytes else items_at (short_at Log 0) count [] bytes

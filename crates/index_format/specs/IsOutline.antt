@@ -1,5 +1,5 @@
 -- When an outline is the outline of an index.
-use Rattle.std.specs.Prelude.{◌≡◌, ℕ, ◌+◌, ◌*◌, ◌<◌, ◌≤◌, nat_lt, nat_le, true, ◌&&◌, ◌||◌, Bool, List, [], ◌∷◌, length, zip, take, drop, All, None, ◌==◌}
+use Rattle.std.specs.Prelude.{◌≡◌, ℕ, ◌+◌, ◌*◌, ◌<◌, ◌≤◌, nat_lt, nat_le, true, false, ◌&&◌, ◌||◌, Bool, List, [], ◌∷◌, length, zip, take, drop, All, None, ◌==◌}
 use Rattle.std.specs.List.{sum_by}
 use Rattle.std.specs.List.Sorted.{IsStrictlyIncreasing}
 use Rattle.rule_store.specs.Cells.{cells_along, present_in}
@@ -10,6 +10,7 @@ use Rattle.rule_store.specs.View.{RulesView, symbols_in}
 use Rattle.track_types.specs.Frame.{IsFrame, periods_of, instants_in}
 use Rattle.track_types.specs.Limits.{limit_of}
 use Rattle.track_types.specs.PartsForm.{AreShort}
+use Rattle.track_types.specs.Spelling.{holds_parts, spelling_of}
 use Rattle.track_types.specs.declared.cell.Cell.{Cell}
 use Rattle.track_types.specs.declared.frame.Frame.{Frame}
 use Rattle.track_types.specs.declared.limit.LimitKind.TheVariants.{Objects, Blocks, Symbols}
@@ -57,7 +58,7 @@ comes_after before block = nat_lt before.index block.index || (before.index == b
 
 -- an outline is that of an index
 pub record IsOutline (outline : Outline) : Type 0 where
-  pub version : outline.frame.version ≡ 3
+  pub spelling : holds_parts (spelling_of outline.frame.version) ≡ false
   pub header : IsFrame outline.frame
   pub some : 1 ≤ length outline.objects
   pub few : length outline.objects ≤ limit_of Objects

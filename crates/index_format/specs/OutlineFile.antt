@@ -1,4 +1,4 @@
--- A file of version 3: its bytes, and what they hold after the header, or their first flaw.
+-- A file that holds an outline: its bytes, and what they hold after the header, or their first flaw.
 use Rattle.std.specs.Prelude.{None, ℕ, ◌%◌, ◌/◌, nat_lt, Bool, List, [], ◌++◌, length, take, Result, Ok, Err, if◌then◌else◌}
 use Rattle.std.specs.List.{range_with_len}
 use Rattle.packed_bits.specs.Bits.{ones_of}

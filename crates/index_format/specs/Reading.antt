@@ -1,4 +1,4 @@
--- What the bytes of an index hold: the header, and the parts of version 1 or 2, or the first flaw.
+-- What the bytes of an index hold: the header, and the parts in a file that holds them, or the first flaw.
 use Rattle.std.specs.Prelude.{bytes_eq, ℕ, ℤ, pos, neg_ℤ, ◌+ℤ◌, ◌+◌, ◌-◌, ◌*◌, Bool, ◌&&◌, List, [], length, take, drop, Result, Ok, Err, nat_lt, nat_le, ◌==◌, if◌then◌else◌}
 use Rattle.std.specs.Int.{Width, w32, w64, div_ceil, cast_signed}
 use Rattle.std.specs.Int.Signed.{le_z}
@@ -6,17 +6,19 @@ use Rattle.packed_bits.specs.Bits.{ones_of}
 use Rattle.track_types.specs.Frame.{periods_of}
 use Rattle.track_types.specs.PartsForm.{width_for}
 use Rattle.track_types.specs.Limits.{limit_of}
+use Rattle.track_types.specs.Spelling.{greatest_height, holds_parts, spelling_of}
 use Rattle.track_types.specs.declared.limit.LimitKind.TheVariants as limits
-use Rattle.track_types.specs.declared.limit.TheConstants.{MAX_HEIGHT, MAX_NARROW_HEIGHT, MAX_PERIOD, MAX_PLACE, MAX_RESOLUTION, MAX_TREE}
+use Rattle.track_types.specs.declared.limit.TheConstants.{MAX_PERIOD, MAX_PLACE, MAX_RESOLUTION, MAX_TREE}
 use Rattle.track_types.specs.declared.flaw.Flaw.{Flaw}
 use Rattle.track_types.specs.declared.flaw.Kind.{Kind}
 use Rattle.track_types.specs.declared.flaw.Kind.TheVariants.{Short, Magic, Field, Extra}
 use Rattle.track_types.specs.declared.flaw.Section.TheVariants.{Header, Objects, Alphabet, Presence, Offsets, TreeLen, Tree, Lasts, Perm, Lengths, End}
 use Rattle.track_types.specs.declared.parts.Parts.{Parts}
 use Rattle.track_types.specs.declared.period_parts.PeriodParts.{PeriodParts}
+use Rattle.track_types.specs.declared.spelling.Spelling.{Spelling}
 use Rattle.index_format.specs.declared.header.Sizes.{Sizes}
 use Rattle.index_format.specs.declared.header.Header as headers
-use Rattle.index_format.specs.Spelling.{magic, says_symbols}
+use Rattle.index_format.specs.Spelling.{magic}
 use Rattle.index_format.specs.Fields.{◌>>=◌, Taken, flaw_at, number_at, items_at, short_at, rising_at, rule_at, bits_at, log_at}
 
 -- a field of the header is out of its range
@@ -53,10 +55,6 @@ version_at bytes =
     else if bytes_eq (take 8 bytes) (magic 3) then Ok (3, drop 8 bytes)
     else Err (header_flaw 0 Magic)
 
--- the greatest height of a version
-abbrev pub greatest_height : ℕ → ℕ
-greatest_height version = if nat_lt version 2 then MAX_NARROW_HEIGHT else MAX_HEIGHT
-
 -- a field of the header that passes a test
 unfoldable pub field_at : Width → ℕ → (ℕ → Bool) → List ℕ → Taken ℕ
 field_at w index passes bytes = do
@@ -69,21 +67,21 @@ signed_at index passes bytes = do
   n ← number_at w64 (header_flaw index Short) bytes
   if passes (cast_signed w64 n.0) then Ok (cast_signed w64 n.0, n.1) else Err (header_flaw index Field)
 
--- how many symbols the logs have, where the version says so
-unfoldable pub symbols_at : ℕ → List ℕ → Taken ℕ
-symbols_at version bytes =
-    if says_symbols version then field_at w32 7 (is_in_range 0 (limit_of limits.Symbols)) bytes else Ok (0, bytes)
+-- how many symbols the logs have, where the file holds parts, else 0
+unfoldable pub symbols_at : Spelling → List ℕ → Taken ℕ
+symbols_at spelling bytes =
+    if holds_parts spelling then field_at w32 7 (is_in_range 0 (limit_of limits.Symbols)) bytes else Ok (0, bytes)
 
--- the header's numbers of four bytes, in a version
-unfoldable pub sizes_at : ℕ → List ℕ → Taken Sizes
-sizes_at version bytes = do
+-- the header's numbers of four bytes
+unfoldable pub sizes_at : Spelling → List ℕ → Taken Sizes
+sizes_at spelling bytes = do
   period ← field_at w32 1 (is_in_range 1 MAX_PERIOD) bytes
-  height ← field_at w32 2 (is_in_range 1 (greatest_height version)) period.1
+  height ← field_at w32 2 (is_in_range 1 (greatest_height spelling)) period.1
   objects ← field_at w32 3 (is_in_range 1 (limit_of limits.Objects)) height.1
   span ← field_at w32 4 (is_span objects.0 period.0) objects.1
   alphabet ← field_at w32 5 (is_in_range 0 (limit_of limits.Symbols)) span.1
   rules ← field_at w32 6 (is_in_range 0 (limit_of limits.Symbols)) alphabet.1
-  symbols ← symbols_at version rules.1
+  symbols ← symbols_at spelling rules.1
   Ok (
     record {
       period = period.0;
@@ -97,19 +95,19 @@ sizes_at version bytes = do
     symbols.1,
   )
 
--- the place of the first field of eight bytes in a version
-abbrev pub long_place : ℕ → ℕ
-long_place version = if says_symbols version then 8 else 7
+-- the place of the first field of eight bytes
+abbrev pub long_place : Spelling → ℕ
+long_place spelling = if holds_parts spelling then 8 else 7
 
 -- the header of a version, after the eight bytes that name it
 unfoldable pub fields_at : ℕ → List ℕ → Taken headers.Header
 fields_at version bytes = do
-  sizes ← sizes_at version bytes
-  first ← signed_at (long_place version) (is_first sizes.0.span) sizes.1
-  x ← signed_at (long_place version + 1) is_near first.1
-  y ← signed_at (long_place version + 2) is_near x.1
-  cell ← field_at w64 (long_place version + 3) (is_in_range 1 MAX_RESOLUTION) y.1
-  tick ← field_at w64 (long_place version + 4) (is_in_range 1 MAX_RESOLUTION) cell.1
+  sizes ← sizes_at (spelling_of version) bytes
+  first ← signed_at (long_place (spelling_of version)) (is_first sizes.0.span) sizes.1
+  x ← signed_at (long_place (spelling_of version) + 1) is_near first.1
+  y ← signed_at (long_place (spelling_of version) + 2) is_near x.1
+  cell ← field_at w64 (long_place (spelling_of version) + 3) (is_in_range 1 MAX_RESOLUTION) y.1
+  tick ← field_at w64 (long_place (spelling_of version) + 4) (is_in_range 1 MAX_RESOLUTION) cell.1
   Ok (
     record {
       frame = record {
@@ -168,14 +166,14 @@ period_sections_at objects seen bytes = do
 abbrev pub ended : {A : Type 0} → List ℕ → A → Result A Flaw
 ended bytes value = if length bytes == 0 then Ok value else Err (flaw_at End 0 0 Extra)
 
--- the parts that all bytes after the header hold, in version 1 or 2
+-- the parts that all bytes after the header hold
 unfoldable pub parts_after : headers.Header → List ℕ → Result Parts Flaw
 parts_after header bytes = do
   objects ← items_at (rising_at w32 Objects) header.objects [] bytes
   alphabet ← items_at (rising_at w64 Alphabet) header.alphabet [] objects.1
   rules ← items_at rule_at header.rules [] alphabet.1
   periods ← items_at (period_sections_at header.objects) (periods_of header.frame) [] rules.1
-  symbols ← log_at header.frame.version (width_for (header.alphabet + header.rules)) header.symbols periods.1
+  symbols ← log_at (spelling_of header.frame.version) (width_for (header.alphabet + header.rules)) header.symbols periods.1
   ended symbols.1 (record {
     frame = header.frame;
     objects = objects.0;

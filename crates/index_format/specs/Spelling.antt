@@ -1,5 +1,5 @@
 -- How the parts of an index stand in its bytes: numbers lowest byte first, bits from the lowest of a byte.
-use Rattle.std.specs.Prelude.{ℕ, ℤ, ◌+◌, nat_lt, Bool, if◌then◌else◌, List, [], ◌∷◌, ◌++◌, length}
+use Rattle.std.specs.Prelude.{ℕ, ℤ, ◌+◌, Bool, if◌then◌else◌, List, [], ◌∷◌, ◌++◌, length}
 use Rattle.std.specs.List.{flat_map}
 use Rattle.std.specs.Int.{w32, w64, to_le_bytes, cast_unsigned}
 use Rattle.packed_bits.specs.Words.{low_bits}
@@ -8,8 +8,10 @@ pub use Rattle.bit_stream.specs.Bytes.{bytes_for}
 use Rattle.index_format.specs.declared.header.Header.{Header}
 use Rattle.index_format.specs.declared.header.Sizes.{Sizes}
 use Rattle.track_types.specs.PartsForm.{symbol_width}
+use Rattle.track_types.specs.Spelling.{holds_parts, packs_symbols, spelling_of}
 use Rattle.track_types.specs.declared.parts.Parts.{Parts}
 use Rattle.track_types.specs.declared.period_parts.PeriodParts.{PeriodParts}
+use Rattle.track_types.specs.declared.spelling.Spelling.{Spelling}
 
 -- the numbers of four bytes in a header
 abbrev pub sizes_of : Header → Sizes
@@ -57,10 +59,10 @@ rule_bytes rule = short_bytes rule.0 ++ short_bytes rule.1
 unfoldable pub bits_with : ℕ → List ℕ → List Bool
 bits_with width numbers = flat_map (low_bits width) numbers
 
--- the symbols of all logs: of four bytes each in version 1, after it of so many bits each
-unfoldable pub log_bytes : ℕ → ℕ → List ℕ → List ℕ
-log_bytes version width symbols =
-    if nat_lt version 2 then flat_map short_bytes symbols else bit_bytes (bits_with width symbols)
+-- the symbols of all logs: of so many bits each where they are packed, else of four bytes
+unfoldable pub log_bytes : Spelling → ℕ → List ℕ → List ℕ
+log_bytes spelling width symbols =
+    if packs_symbols spelling then bit_bytes (bits_with width symbols) else flat_map short_bytes symbols
 
 -- what an index holds of a period
 unfoldable pub period_bytes : PeriodParts → List ℕ
@@ -69,24 +71,20 @@ period_bytes period =
     ++ short_bytes (length period.tree) ++ bit_bytes period.tree ++ bit_bytes period.lasts
     ++ flat_map short_bytes period.perm ++ flat_map short_bytes period.lengths
 
--- the versions whose header says how many symbols the logs have; from version 3 on the blocks tell it
-abbrev pub says_symbols : ℕ → Bool
-says_symbols version = nat_lt version 3
+-- how many symbols the logs have, where the file holds parts; the blocks of an outline tell it
+unfoldable pub symbols_bytes : Spelling → ℕ → List ℕ
+symbols_bytes spelling symbols = if holds_parts spelling then short_bytes symbols else []
 
--- how many symbols the logs have, where the version says so
-unfoldable pub symbols_bytes : ℕ → ℕ → List ℕ
-symbols_bytes version symbols = if says_symbols version then short_bytes symbols else []
-
--- the header's numbers of four bytes, in a version
-unfoldable pub size_bytes : ℕ → Sizes → List ℕ
-size_bytes version sizes =
+-- the header's numbers of four bytes
+unfoldable pub size_bytes : Spelling → Sizes → List ℕ
+size_bytes spelling sizes =
     short_bytes sizes.period ++ short_bytes sizes.height ++ short_bytes sizes.objects ++ short_bytes sizes.span
-    ++ short_bytes sizes.alphabet ++ short_bytes sizes.rules ++ symbols_bytes version sizes.symbols
+    ++ short_bytes sizes.alphabet ++ short_bytes sizes.rules ++ symbols_bytes spelling sizes.symbols
 
 -- the header after the eight bytes that name the version: the numbers of four bytes and those of eight
 unfoldable pub fields_bytes : Header → List ℕ
 fields_bytes header =
-    size_bytes header.frame.version (sizes_of header)
+    size_bytes (spelling_of header.frame.version) (sizes_of header)
     ++ signed_bytes header.frame.first ++ signed_bytes header.frame.base.x ++ signed_bytes header.frame.base.y
     ++ long_bytes header.frame.cell ++ long_bytes header.frame.tick
 
@@ -94,13 +92,13 @@ fields_bytes header =
 unfoldable pub header_bytes : Header → List ℕ
 header_bytes header = magic header.frame.version ++ fields_bytes header
 
--- what follows the header in versions 1 and 2
+-- what follows the header in a file that holds parts
 unfoldable pub parts_bytes : Parts → List ℕ
 parts_bytes parts =
     flat_map short_bytes parts.objects ++ flat_map long_bytes parts.alphabet
     ++ flat_map rule_bytes parts.rules ++ flat_map period_bytes parts.periods
-    ++ log_bytes parts.frame.version (symbol_width parts) parts.symbols
+    ++ log_bytes (spelling_of parts.frame.version) (symbol_width parts) parts.symbols
 
--- an index file of version 1 or 2
+-- an index file that holds parts
 unfoldable pub bytes_of_parts : Parts → List ℕ
 bytes_of_parts parts = header_bytes (header_of parts) ++ parts_bytes parts

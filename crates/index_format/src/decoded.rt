@@ -10,8 +10,8 @@ pub struct Decoded {
     /// What the file stores.
     pub stored: Stored,
     /// Of an outline, the bounds of the log of each block, in the order of the blocks. They begin at the cell of the block's
-    /// anchor, and are counted from the base as it is. Parts of version 1 or 2 have none.
+    /// anchor, and are counted from the base as it is. Parts have none.
     pub bounds: Vec<PackedBounds>,
-    /// The entries of an outline's symbols. For parts of version 1 or 2 there are none.
+    /// The entries of an outline's symbols. For parts there are none.
     pub table: EntryTable,
 }

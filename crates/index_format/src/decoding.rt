@@ -9,7 +9,7 @@ ghost use Rattle.index_format.specs.Reading.{parts_after};
 ghost use Rattle.index_format.specs.Stored.{stored_after, stored_in, stored_bytes, IsStored};
 
 use crate::decoded::Decoded;
-use crate::header::{Header, header_of, says_symbols};
+use crate::header::{Header, header_of};
 use crate::lists::{alphabet_of, objects_of, rules_of};
 use crate::log::log_of;
 use crate::outline::{ReadOutline, outline_after};
@@ -65,7 +65,7 @@ fn decoded_after(alloc: Global, header: Header, bytes: &[u8]) -> Result<Decoded,
     ensures table { IfOk result (λ decoded. IfOutline decoded.stored
         (λ outline. IsWholeTable (rules_read outline) decoded.table)) }
 {
-    if says_symbols(header.frame.version) {
+    if header.frame.spelling().holds_parts() {
         let parts = parts_after(alloc, header, bytes)?;
         return Ok(Decoded {
             stored: Stored::Parts(parts),
@@ -85,7 +85,7 @@ fn decoded_after(alloc: Global, header: Header, bytes: &[u8]) -> Result<Decoded,
     })
 }
 
-// The parts that all bytes after the header hold, in version 1 or 2.
+// The parts that all bytes after the header hold.
 #[tactic(auto, unfolding(crate::specs::Reading::parts_after))]
 fn parts_after(alloc: Global, header: Header, bytes: &[u8]) -> Result<Parts, FormatFault>
     requires { IsHeader header }

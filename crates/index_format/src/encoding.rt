@@ -1,11 +1,12 @@
 ghost use Rattle.std.specs.Prelude.{◌≡◌, ◌<◌, ◌≤◌, ◌^◌, ◌++◌, length, [], ◌∷◌, IfOk, OnOk};
 ghost use Rattle.std.specs.Int.{w64, cast_unsigned};
 ghost use Rattle.track_types.specs.PartsForm.{IsShaped};
+ghost use Rattle.track_types.specs.Spelling.{spelling_of};
 ghost use Rattle.track_types.specs.declared.limit.TheConstants.{MAX_VERSION};
 ghost use Rattle.index_format.specs.Stored.{AreOldParts};
 ghost use Rattle.index_format.specs.Spelling.{header_bytes, period_bytes, size_bytes, header_of, sizes_of, bytes_of_parts};
 
-use crate::header::{Header, magic, says_symbols};
+use crate::header::{Header, magic};
 use crate::lengths::parts_len;
 use crate::log::put_log;
 use crate::putting::{put_bits, put_longs, put_rules, put_short, put_shorts};
@@ -42,7 +43,8 @@ fn places_of(first: i64, x: i64, y: i64, cell: u64, tick: u64) -> [u64; 5]
 /// Appends the header's numbers of four bytes.
 #[tactic(auto, unfolding(crate::specs::Spelling::size_bytes, crate::specs::Spelling::symbols_bytes))]
 fn put_sizes(out: &mut Vec<u8>, header: &Header) -> Result<(), Memory>
-    ensures { OnOk result (out.new.items ≡ out.old.items ++ size_bytes header.now.frame.version (sizes_of header.now)) }
+    ensures { OnOk result (out.new.items
+        ≡ out.old.items ++ size_bytes (spelling_of header.now.frame.version) (sizes_of header.now)) }
 {
     let Header {
         frame,
@@ -62,7 +64,7 @@ fn put_sizes(out: &mut Vec<u8>, header: &Header) -> Result<(), Memory>
             rules,
         ],
     )?;
-    if says_symbols(frame.version) {
+    if frame.spelling().holds_parts() {
         put_short(out, symbols)?;
     }
     Ok(())
@@ -103,7 +105,7 @@ fn put_period(out: &mut Vec<u8>, period: &PeriodParts) -> Result<(), Memory>
     put_shorts(out, period.lengths.as_slice())
 }
 
-/// The bytes of an index file of version 1 or 2 that holds these parts.
+/// The bytes of an index file that holds these parts as they are.
 ///
 /// A first pass over the periods counts the bytes, and memory is taken once, for as many. A second pass writes them.
 pub fn encode(alloc: Global, parts: &Parts) -> Result<Vec<u8>, Memory>

@@ -3,14 +3,14 @@ ghost use Rattle.std.specs.Int.{w32, w64};
 ghost use Rattle.track_types.specs.declared.limit.TheConstants.{MAX_RESOLUTION, MAX_SYMBOLS, MAX_VERSION};
 ghost use Rattle.index_format.specs.Answers.{Gives};
 ghost use Rattle.index_format.specs.Headers.{IsHeader};
-ghost use Rattle.index_format.specs.Spelling.{magic, says_symbols};
-ghost use Rattle.index_format.specs.Reading.{header_flaw, is_in_range, is_span, is_first, is_near, greatest_height, version_at, field_at, signed_at, symbols_at, sizes_at, long_place, fields_at, header_at};
+ghost use Rattle.index_format.specs.Spelling.{magic};
+ghost use Rattle.index_format.specs.Reading.{header_flaw, is_in_range, is_span, is_first, is_near, version_at, field_at, signed_at, symbols_at, sizes_at, long_place, fields_at, header_at};
 
 use crate::fields::{long_of, short_of};
 use crate::place::Place;
 use track_types::{
-    Cell, Flaw, FormatFault, Frame, Kind, MAX_BLOCKS, MAX_HEIGHT, MAX_NARROW_HEIGHT, MAX_OBJECTS,
-    MAX_PERIOD, MAX_PLACE, MAX_RESOLUTION, MAX_SPAN, MAX_SYMBOLS, Section,
+    Cell, Flaw, FormatFault, Frame, Kind, MAX_BLOCKS, MAX_OBJECTS, MAX_PERIOD, MAX_PLACE,
+    MAX_RESOLUTION, MAX_SPAN, MAX_SYMBOLS, Section, Spelling,
 };
 
 /// How many bytes name the format and its version.
@@ -64,13 +64,6 @@ fn header_flaw(index: usize, kind: Kind) -> Flaw
     Place::of(Section::Header, 0).flaw(index, kind)
 }
 
-/// Whether the header of a version says how many symbols the logs have. From version 3 on the blocks tell it.
-pub fn says_symbols(version: u32) -> bool
-    ensures { result ≡ says_symbols version }
-{
-    version < 3
-}
-
 /// The version that the eight bytes at the front name.
 #[tactic(auto, unfolding(crate::specs::Reading::version_at))]
 fn version_of(bytes: &[u8]) -> Result<(u32, &[u8]), FormatFault>
@@ -90,17 +83,6 @@ fn version_of(bytes: &[u8]) -> Result<(u32, &[u8]), FormatFault>
         return Ok((3, rest));
     }
     Err(FormatFault::Flaw(header_flaw(0, Kind::Magic)))
-}
-
-/// The greatest height of a version.
-fn greatest_height(version: u32) -> u32
-    ensures { result ≡ greatest_height version }
-{
-    if version < 2 {
-        MAX_NARROW_HEIGHT
-    } else {
-        MAX_HEIGHT
-    }
 }
 
 /// A field of four bytes in its range.
@@ -175,31 +157,31 @@ fn coordinate_of(bytes: &[u8], index: usize) -> Result<(i64, &[u8]), FormatFault
     Ok((coordinate, rest))
 }
 
-/// How many symbols the logs have, where the version says so, else 0.
+/// How many symbols the logs have, where the file holds parts, else 0.
 #[tactic(auto, unfolding(crate::specs::Reading::symbols_at))]
-fn symbols_of(version: u32, bytes: &[u8]) -> Result<(u32, &[u8]), FormatFault>
-    ensures { Gives (λ x. (x.0, x.1.now)) result (symbols_at version bytes.now) }
+fn symbols_of(spelling: Spelling, bytes: &[u8]) -> Result<(u32, &[u8]), FormatFault>
+    ensures { Gives (λ x. (x.0, x.1.now)) result (symbols_at spelling bytes.now) }
 {
-    if says_symbols(version) {
+    if spelling.holds_parts() {
         field_of(bytes, 7, 0, MAX_SYMBOLS)
     } else {
         Ok((0, bytes))
     }
 }
 
-/// The header's numbers of four bytes, in a version.
+/// The header's numbers of four bytes.
 #[tactic(auto, unfolding(crate::specs::Reading::sizes_at))]
-fn sizes_of(version: u32, bytes: &[u8]) -> Result<(Sizes, &[u8]), FormatFault>
-    ensures exact { Gives (λ x. (x.0, x.1.now)) result (sizes_at version bytes.now) }
+fn sizes_of(spelling: Spelling, bytes: &[u8]) -> Result<(Sizes, &[u8]), FormatFault>
+    ensures exact { Gives (λ x. (x.0, x.1.now)) result (sizes_at spelling bytes.now) }
     ensures within { IfOk result (λ x. 1 ≤ x.0.span) }
 {
     let (period, rest) = field_of(bytes, 1, 1, MAX_PERIOD)?;
-    let (height, rest) = field_of(rest, 2, 1, greatest_height(version).into())?;
+    let (height, rest) = field_of(rest, 2, 1, spelling.greatest_height().into())?;
     let (objects, rest) = field_of(rest, 3, 1, MAX_OBJECTS)?;
     let (span, rest) = span_of(rest, objects, period)?;
     let (alphabet, rest) = field_of(rest, 5, 0, MAX_SYMBOLS)?;
     let (rules, rest) = field_of(rest, 6, 0, MAX_SYMBOLS)?;
-    let (symbols, rest) = symbols_of(version, rest)?;
+    let (symbols, rest) = symbols_of(spelling, rest)?;
     Ok((
         Sizes {
             period,
@@ -214,11 +196,11 @@ fn sizes_of(version: u32, bytes: &[u8]) -> Result<(Sizes, &[u8]), FormatFault>
     ))
 }
 
-/// The place of the first field of eight bytes in a version.
-fn long_place(version: u32) -> usize
-    ensures { result ≡ long_place version }
+/// The place of the first field of eight bytes.
+fn long_place(spelling: Spelling) -> usize
+    ensures { result ≡ long_place spelling }
 {
-    if says_symbols(version) { 8 } else { 7 }
+    if spelling.holds_parts() { 8 } else { 7 }
 }
 
 /// The header at the front, and the bytes after it.
@@ -243,8 +225,9 @@ fn whole_header(bytes: &[u8]) -> Result<(Header, &[u8]), FormatFault>
 fn fields_of(version: u32, bytes: &[u8]) -> Result<(Header, &[u8]), FormatFault>
     ensures { Gives (λ x. (x.0, x.1.now)) result (fields_at version bytes.now) }
 {
-    let (sizes, rest) = sizes_of(version, bytes)?;
-    let place = long_place(version);
+    let spelling = Spelling::of(version);
+    let (sizes, rest) = sizes_of(spelling, bytes)?;
+    let place = long_place(spelling);
     let Sizes {
         period,
         height,

@@ -6,7 +6,7 @@ ghost use Rattle.index_format.specs.Spelling.{bytes_for, bytes_of_parts, period_
 use crate::log::log_len;
 use track_types::{BitList, Parts, PeriodParts};
 
-/// How many bytes a header of version 1 or 2 has.
+/// How many bytes the header of a file that holds parts has.
 const HEADER_LEN: usize = 76;
 
 /// How many bytes the bits take. There are fewer than 2^32 bits.
@@ -31,7 +31,7 @@ fn period_len(period: &PeriodParts) -> usize
     bits + 4 * (offsets + 1 + perm + lengths)
 }
 
-/// How many bytes an index file of version 1 or 2 has for these parts, counted in one pass over the periods.
+/// How many bytes an index file has that holds these parts, counted in one pass over the periods.
 pub fn parts_len(parts: &Parts) -> usize
     requires { AreOldParts parts.now }
     ensures { result ≡ length (bytes_of_parts parts.now) }

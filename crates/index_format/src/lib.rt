@@ -1,9 +1,9 @@
-//! The bytes of an index file, in the three versions of the format. `decode` reads what a file stores,
-//! or names the first flaw. Of a file of version 3 it also answers what bounds the logs.
+//! The bytes of an index file, in each version of the format. `decode` reads what a file stores, or
+//! names the first flaw. Of an outline it also answers what bounds the logs.
 //!
-//! A file of version 1 or 2 stores the parts of an index, and `encode` writes them. A file of version
-//! 3 stores an outline, from which the parts follow, and `encode_outline` writes it. All that has the
-//! form of an index has one spelling, and bytes are read if and only if they are such a spelling.
+//! A file stores the parts of an index, and `encode` writes them, or an outline, from which the parts
+//! follow, and `encode_outline` writes it: its version's `Spelling` tells which. All that has the form
+//! of an index has one file, and bytes are read if and only if they are such a file.
 //!
 //! A flaw is named by its section, period, index and kind.
 #![tactic(auto)]

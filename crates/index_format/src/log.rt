@@ -1,5 +1,6 @@
 ghost use Rattle.std.specs.Prelude.{◌≡◌, ◌+◌, ◌++◌, ◌≤◌, ◌^◌, length, OnOk};
 ghost use Rattle.track_types.specs.PartsForm.{IsShaped, symbol_width, width_for};
+ghost use Rattle.track_types.specs.Spelling.{spelling_of};
 ghost use Rattle.track_types.specs.declared.limit.TheConstants.{MAX_SYMBOLS};
 ghost use Rattle.index_format.specs.Answers.{Gives};
 ghost use Rattle.index_format.specs.Fields.{log_at};
@@ -22,10 +23,11 @@ pub fn log_of(alloc: Global, header: Header, bytes: &[u8]) -> Result<(List32, &[
     requires few { header.symbols ≤ MAX_SYMBOLS }
     requires told { header.alphabet + header.rules ≤ 2 ^ 26 }
     ensures { Gives (λ x. (x.0, x.1.now)) result
-        (log_at header.frame.version (width_for (header.alphabet + header.rules)) header.symbols bytes.now) }
+        (log_at (spelling_of header.frame.version) (width_for (header.alphabet + header.rules))
+        header.symbols bytes.now) }
 {
     let place = Place::of(Section::Log, 0);
-    if header.frame.version < 2 {
+    if !header.frame.spelling().packs_symbols() {
         return shorts_of(alloc, place, header.symbols, bytes);
     }
     let width = width_for(header.alphabet + header.rules);
@@ -34,7 +36,7 @@ pub fn log_of(alloc: Global, header: Header, bytes: &[u8]) -> Result<(List32, &[
     Ok((List32::new(symbols), rest))
 }
 
-/// How many bits a symbol of shaped parts takes from version 2 on: 1 to 26.
+/// How many bits a symbol of shaped parts takes where symbols are packed: 1 to 26.
 fn width_of(parts: &Parts) -> u32
     requires { IsShaped parts.now }
     ensures exact { result ≡ symbol_width parts.now }
@@ -47,26 +49,27 @@ fn width_of(parts: &Parts) -> u32
 /// How many bytes the log of shaped parts takes.
 pub fn log_len(parts: &Parts) -> usize
     requires { IsShaped parts.now }
-    ensures exact { result ≡ length (log_bytes parts.now.frame.version (symbol_width parts.now) parts.now.symbols) }
+    ensures exact { result
+        ≡ length (log_bytes (spelling_of parts.now.frame.version) (symbol_width parts.now) parts.now.symbols) }
     ensures within { result ≤ 2 ^ 27 }
 {
     let count = parts.symbols.as_slice().len();
-    if parts.frame.version < 2 {
-        return 4 * count;
+    if parts.frame.spelling().packs_symbols() {
+        return (width_of(parts) as usize * count).div_ceil(8);
     }
-    (width_of(parts) as usize * count).div_ceil(8)
+    4 * count
 }
 
 /// Appends the log of shaped parts.
 #[tactic(auto, unfolding(crate::specs::Spelling::log_bytes))]
 pub fn put_log(out: &mut Vec<u8>, parts: &Parts) -> Result<(), Memory>
     requires { IsShaped parts.now }
-    ensures { OnOk result (out.new.items
-        ≡ out.old.items ++ log_bytes parts.now.frame.version (symbol_width parts.now) parts.now.symbols) }
+    ensures { OnOk result (out.new.items ≡ out.old.items
+        ++ log_bytes (spelling_of parts.now.frame.version) (symbol_width parts.now) parts.now.symbols) }
 {
     let symbols = parts.symbols.as_slice();
-    if parts.frame.version < 2 {
-        return put_shorts(out, symbols);
+    if parts.frame.spelling().packs_symbols() {
+        return put_packed(out, width_of(parts), symbols);
     }
-    put_packed(out, width_of(parts), symbols)
+    put_shorts(out, symbols)
 }

@@ -20,12 +20,12 @@ use std::marker::Model;
 use track_types::{Cell, Frame, List32, List64, PairList};
 pub use writing::encode_outline;
 
-/// What a file of version 3 stores: nothing in it follows from the rest.
+/// What a file stores that holds no parts: nothing in it follows from the rest.
 ///
 /// It promises nothing by itself. `IsOutline` in specs/ says when it is the outline of an index.
 #[derive(Debug, Drop)]
 pub struct Outline {
-    /// The frame, of version 3.
+    /// The frame, of a version whose files hold outlines.
     pub frame: Frame,
     /// The objects' numbers, ascending.
     pub objects: List32,

@@ -4,7 +4,7 @@ ghost use Rattle.index_format.specs.Fields.{flaw_at};
 use track_types::{Flaw, Kind, Section};
 
 /// A section of one period. Outside the sections of periods the period is 0. So it is for the log of a
-/// file of version 1 or 2, whose symbols are read as one list.
+/// file that holds parts, whose symbols are read as one list.
 #[derive(Clone, Copy)]
 pub struct Place {
     pub section: Section,

@@ -6,8 +6,8 @@ use track_types::Parts;
 /// It promises nothing by itself. `IsStored` in specs/ says when it has the form of an index.
 #[derive(Debug, Drop)]
 pub enum Stored {
-    /// The parts of an index, in a file of version 1 or 2.
+    /// The parts of an index.
     Parts(Parts),
-    /// What the parts follow from, in a file of version 3.
+    /// The outline of an index, from which its parts follow.
     Outline(Outline),
 }

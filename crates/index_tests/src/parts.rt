@@ -2,7 +2,7 @@ use crate::charts::{Place, chart_of};
 use chart_parts::parts_of;
 use std::alloc::Global;
 use std::test::Fail;
-use track_types::{BitList, Cell, Frame, List32, Memory, Parts, PeriodParts};
+use track_types::{BitList, Cell, Frame, List32, MAX_VERSION, Memory, Parts, PeriodParts};
 
 // What a period's parts are expected to be; bits as digits 0 and 1.
 #[derive(Drop)]
@@ -57,7 +57,7 @@ fn are_periods(parts: &Parts, expected: &[Expected]) -> bool {
 // The header of a chart of cells and instants of one unit, from instant 0 on.
 fn frame(span: u32, period: u32, height: u32, x: i64, y: i64) -> Frame {
     Frame {
-        version: 3,
+        version: MAX_VERSION,
         first: 0,
         span,
         period,

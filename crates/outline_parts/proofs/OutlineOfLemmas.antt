@@ -1,5 +1,5 @@
 -- The outline of valid parts, whose rules are in order, is that of an index.
-use Rattle.std.proofs.Common.{All, ◌≡◌, ℕ, ◌<◌, ◌≤◌, true, List, [], ◌∷◌, length, map, None, Some}
+use Rattle.std.proofs.Common.{All, ◌≡◌, ℕ, ◌<◌, ◌≤◌, true, false, List, [], ◌∷◌, length, map, None, Some}
 use Rattle.std.proofs.Common.{refl, sym, ◌∙◌, arith, subst}
 use Rattle.std.specs.List.Sorted.{IsStrictlySortedBy}
 use Rattle.std.specs.declared.cmp.Ordering.TheVariants.{Less}
@@ -10,6 +10,7 @@ use Rattle.std.proofs.lemmas.List.Elements.{All-contains, All-drop, All-from_get
 use Rattle.list_laws.proofs.SumLemmas.{sum_by-agree}
 use Rattle.track_types.specs.Frame.{instants_in, periods_of}
 use Rattle.track_types.specs.declared.cell.Cell.{Cell}
+use Rattle.track_types.specs.Spelling.{holds_parts, spelling_of}
 use Rattle.track_types.specs.declared.parts.Parts.{Parts}
 use Rattle.rule_store.specs.Cells.{cells_along, present_in}
 use Rattle.rule_store.specs.Entry.{duration_of, entry_of}
@@ -55,7 +56,7 @@ follows-sorted (it ∷ next ∷ its) up =
         comes_after before block ≡ true
     follow before block low tied = grind (arith, nat_tests, low, tied)
 
-module _ (parts : Parts) (valid : IsValid parts) (version : parts.frame.version ≡ 3) where
+module _ (parts : Parts) (valid : IsValid parts) where
   abbrev rules : RulesView
   rules = rules_in parts
 
@@ -122,20 +123,21 @@ module _ (parts : Parts) (valid : IsValid parts) (version : parts.frame.version 
 
   each-told : All (IsBlock parts.frame judged_by (length parts.objects)) (logged_blocks parts)
   each-told =
-      All-told parts valid version (IsBlock parts.frame judged_by (length parts.objects))
+      All-told parts valid (IsBlock parts.frame judged_by (length parts.objects))
       (λ number i block below within has is own.
-      IsBlock-told number i block below within has is own (whole-block parts valid version number block below is))
+      IsBlock-told number i block below within has is own (whole-block parts valid number block below is))
 
   -- blocks and symbols are told again
   pub logged-told : blocks_with_logs (outline_of parts).blocks (outline_of parts).symbols ≡ logged_blocks parts
   unfolding outline_of
-  logged-told = logged-again (logged_blocks parts) (whole-told parts valid version)
+  logged-told = logged-again (logged_blocks parts) (whole-told parts valid)
 
   -- the outline of the parts is that of an index
-  pub IsOutline-outline_of : AreInOrder (length parts.alphabet) parts.rules → IsOutline (outline_of parts)
+  pub IsOutline-outline_of : holds_parts (spelling_of parts.frame.version) ≡ false →
+      AreInOrder (length parts.alphabet) parts.rules → IsOutline (outline_of parts)
   unfolding outline_of
-  IsOutline-outline_of in_order = record {
-    version = version;
+  IsOutline-outline_of no_parts in_order = record {
+    spelling = no_parts;
     header = valid.shaped.header;
     some = valid.shaped.some;
     few = valid.shaped.few;
@@ -148,9 +150,9 @@ module _ (parts : Parts) (valid : IsValid parts) (version : parts.frame.version 
     few_rules = valid.shaped.few_rules;
     rules = in_order;
     near_rules = no-rule_flaw;
-    order = follows-sorted (logged_blocks parts) (told-sorted parts valid version);
+    order = follows-sorted (logged_blocks parts) (told-sorted parts valid);
     each = subst (All (IsBlock parts.frame judged_by (length parts.objects))) (sym logged-told) each-told;
-    symbols = total-logged (logged_blocks parts) (whole-told parts valid version)
+    symbols = total-logged (logged_blocks parts) (whole-told parts valid)
         ∙ sym (length-flat_map (λ (it : Logged). it.1) (logged_blocks parts));
-    few_symbols = omega (arith, length-told parts valid version, valid.shaped.few_symbols);
+    few_symbols = omega (arith, length-told parts valid, valid.shaped.few_symbols);
   }

@@ -1,10 +1,11 @@
 -- Valid parts are what their outline opens to.
-use Rattle.std.proofs.Common.{◌≡◌, ℕ, ◌<◌, List, length, map}
+use Rattle.std.proofs.Common.{◌≡◌, ℕ, ◌<◌, false, List, length, map}
 use Rattle.std.proofs.Common.{refl, ap, ◌∙◌, arith}
 use Rattle.std.specs.List.{flat_map}
 use Rattle.std.proofs.lemmas.Simd.{map-map}
 use Rattle.list_laws.proofs.MapLemmas.{map-range_agree}
 use Rattle.track_types.specs.Frame.{periods_of}
+use Rattle.track_types.specs.Spelling.{holds_parts, spelling_of}
 use Rattle.track_types.specs.declared.parts.Parts.{Parts}
 use Rattle.movement_log.specs.declared.head.Head.{Head}
 use Rattle.index_format.specs.IsOutline.{AreInOrder, blocks_with_logs}
@@ -22,7 +23,7 @@ use Rattle.outline_parts.proofs.PeriodAgainLemmas.{period_with-again, view_heads
 use Rattle.outline_parts.proofs.RankLemmas.{map-places}
 use Rattle.outline_parts.proofs.ToldLemmas.{symbols-told, told-in_period}
 
-module _ (parts : Parts) (valid : IsValid parts) (version : parts.frame.version ≡ 3)
+module _ (parts : Parts) (valid : IsValid parts) (no_parts : holds_parts (spelling_of parts.frame.version) ≡ false)
     (in_order : AreInOrder (length parts.alphabet) parts.rules) where
   abbrev outline : Outline
   outline = outline_of parts
@@ -36,19 +37,19 @@ module _ (parts : Parts) (valid : IsValid parts) (version : parts.frame.version 
 
     mine-are : logged_in number (blocks_with_logs outline.blocks outline.symbols)
         ≡ map (logged_block parts number) (all_blocks (snapshot_in parts number))
-    mine-are = ap (logged_in number) (logged-told parts valid version) ∙ told-in_period parts valid version number below
+    mine-are = ap (logged_in number) (logged-told parts valid) ∙ told-in_period parts valid number below
 
     heads-are : map (λ block. block.0) (blocks_of_period number (map (headed outline.frame) outline.blocks)) ≡ heads
     unfolding outline_of
     heads-are =
-        heads-mine outline (IsOutline-outline_of parts valid version in_order) number
+        heads-mine outline (IsOutline-outline_of parts valid no_parts in_order) number
         ∙ ap (map (λ (it : Logged). head_of parts.frame it.0)) mine-are
         ∙ map-map (λ (it : Logged). head_of parts.frame it.0) (logged_block parts number) (all_blocks (snapshot_in parts number))
 
     lengths-are : map (λ block. block.1) (blocks_of_period number (map (headed outline.frame) outline.blocks)) ≡ lengths
     unfolding outline_of
     lengths-are =
-        lengths-mine outline (IsOutline-outline_of parts valid version in_order) number
+        lengths-mine outline (IsOutline-outline_of parts valid no_parts in_order) number
         ∙ ap (map (λ (it : Logged). it.0.length)) mine-are
         ∙ map-map (λ (it : Logged). it.0.length) (logged_block parts number) (all_blocks (snapshot_in parts number))
 
@@ -70,6 +71,6 @@ module _ (parts : Parts) (valid : IsValid parts) (version : parts.frame.version 
   pub parts_of_outline-outline_of : parts_of_outline (outline_of parts) ≡ parts
   unfolding parts_of_outline outline_of
   parts_of_outline-outline_of =
-      let symbols = ap (λ its. flat_map (symbols_in its) (numbers_in parts.frame)) (logged-told parts valid version)
-      ∙ symbols-told parts valid version in
+      let symbols = ap (λ its. flat_map (symbols_in its) (numbers_in parts.frame)) (logged-told parts valid)
+      ∙ symbols-told parts valid in
       rw (periods-again, symbols) refl

@@ -38,7 +38,7 @@ pub made-from : {X Y : Type 0} (f : X → Y) (one : Option X) (y : Y) → option
 made-from f None y is = absurd (none-some y is)
 made-from f (Some x) y is = (x, refl, same_Some (f x) y is)
 
-module _ (parts : Parts) (valid : IsValid parts) (version : parts.frame.version ≡ 3) where
+module _ (parts : Parts) (valid : IsValid parts) where
   abbrev count : ℕ
   count = periods_of parts.frame
 
@@ -49,7 +49,7 @@ module _ (parts : Parts) (valid : IsValid parts) (version : parts.frame.version 
   pub block_in-2 : (number i : ℕ) →
       block_in parts number i ≡ option_map (logged_block parts number) (block_of (snapshot_in parts number) i)
   unfolding block_in start_in
-  block_in-2 number i = rw version refl
+  block_in-2 number i = refl
 
   -- what is told of an object in a period is its block
   pub told-from : (number i : ℕ) (it : Logged) → block_in parts number i ≡ Some it →

@@ -1,4 +1,4 @@
-//! The way between an outline, which a file of version 3 stores, and the parts of an index.
+//! The way between an outline, which the newest files store, and the parts of an index.
 //!
 //! An outline has its blocks by object, and nothing in it follows from the rest. Parts have the same
 //! blocks by period, with all that follows from them. `parts_of_outline` gives the parts of an outline,

@@ -1,4 +1,5 @@
-ghost use Rattle.std.specs.Prelude.{◌≡◌, length, map, IfOk};
+ghost use Rattle.std.specs.Prelude.{◌≡◌, false, length, map, IfOk};
+ghost use Rattle.track_types.specs.Spelling.{holds_parts, spelling_of};
 ghost use Rattle.snapshots.specs.SoundParts.{IsValid};
 ghost use Rattle.index_format.specs.IsOutline.{AreInOrder, IsOutline};
 ghost use Rattle.outline_parts.specs.OutlineOf.{outline_of};
@@ -11,13 +12,14 @@ use index_format::{BlockList, Outline, OutlineBlock};
 use std::alloc::{AllocError, Global};
 use track_types::{List32, Memory, Parts};
 
-/// The outline of parts of version 3: their blocks by object, then period, and their logs in this order.
+/// The outline of parts: their blocks by object, then period, and their logs in this order.
 ///
-/// The parts are those of an index, and their rules are in order. So the outline is that of an index.
+/// The parts are those of an index whose file holds an outline, and their rules are in order. So the
+/// outline is that of an index.
 /// It takes memory for the outline, for a list of the blocks, and for the cells of a period.
 pub fn outline_of(alloc: Global, parts: Parts) -> Result<Outline, Memory>
     requires valid { IsValid parts }
-    requires version { parts.frame.version ≡ 3 }
+    requires spelling { holds_parts (spelling_of parts.frame.version) ≡ false }
     requires order { AreInOrder (length parts.alphabet) parts.rules }
     ensures ok { IfOk result (λ outline. outline ≡ outline_of parts) }
     ensures outline { IfOk result (λ outline. IsOutline outline) }
@@ -46,8 +48,7 @@ pub fn outline_of(alloc: Global, parts: Parts) -> Result<Outline, Memory>
 
 // The blocks of parts by object, then period, with the places of their logs.
 fn blocks_by_object(alloc: Global, parts: &Parts) -> Result<Vec<PlacedBlock>, AllocError>
-    requires valid { IsValid parts.now }
-    requires version { parts.now.frame.version ≡ 3 }
+    requires { IsValid parts.now }
     ensures { IfOk result (λ placed. placed.items
         ≡ placed_by_object (length parts.now.objects) (told_placed parts.now)) }
 {

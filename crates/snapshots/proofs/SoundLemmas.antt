@@ -2,7 +2,7 @@
 use Rattle.std.proofs.Common.{◌≡◌, ℕ, zero, suc, ◌+◌, ◌-◌, ◌<◌, ◌≤◌, Bool, true, false, leb, cond, List, length}
 use Rattle.std.proofs.Common.{get_or}
 use Rattle.std.proofs.Common.{Option, None, Some, inl, inr, refl, sym, ap, ◌∙◌, arith}
-use Rattle.std.specs.Prelude.{◌*◌, ◌==◌, ◌&&◌, ◌||◌, not, nat_lt}
+use Rattle.std.specs.Prelude.{◌*◌, ◌==◌, ◌&&◌, ◌||◌, not}
 use Rattle.std.proofs.lemmas.Bool.{and_from, cases_Bool, cases_lt, eq-eqb, leb-false, lt-leb}
 use Rattle.std.proofs.lemmas.Bool.Decides.{nat_tests}
 use Rattle.std.proofs.lemmas.Int.{ints}
@@ -13,9 +13,11 @@ use Rattle.bit_rank.proofs.RankLemmas.{rank_of-le, rank_of-step}
 use Rattle.list_laws.proofs.FindLemmas.{find_in_range-all, find_in_range-none}
 use Rattle.object_perm.proofs.FlawLemmas.{first_flawed_place-permutes, permutes-from_none}
 use Rattle.track_types.specs.Frame.{instants_in, wide_of, IsFrame}
+use Rattle.track_types.specs.Spelling.{spelling_of}
 use Rattle.track_types.specs.declared.cell.Cell.{Cell}
 use Rattle.track_types.specs.declared.frame.Frame.{Frame}
 use Rattle.track_types.specs.declared.limit.TheConstants.{MAX_TREE}
+use Rattle.track_types.proofs.SpellingLemmas.{wide_levels-few}
 use Rattle.k2_tree.specs.Morton.{IsGrid}
 use Rattle.k2_tree.specs.Groups.{upper_squares}
 use Rattle.k2_tree.specs.Tree.{codes_in, codes_of, tree_bits, tree_of, IsStoredTree}
@@ -84,10 +86,7 @@ IsGrid-frame frame is = record {
 
 -- at most one level of four is wide, in any version
 pub wide_of-few : (frame : Frame) → 4 * wide_of frame ≤ frame.height
-wide_of-few frame = elim (cases_Bool (nat_lt frame.version 2)) [
-  | inl old ↦ rw old (omega arith)
-  | inr new ↦ rw new (omega arith)
-]
+wide_of-few frame = wide_levels-few (spelling_of frame.version) frame.height
 
 -- so they take no more digits than there are
 pub wide_of-fits : (frame : Frame) → 2 * wide_of frame ≤ frame.height

@@ -7,12 +7,14 @@ use Rattle.track_types.specs.Boxes.{box_from, cut_box, joined_box, moved_box, to
 use Rattle.track_types.specs.Timeline.{terminals_from}
 use Rattle.track_types.specs.declared.cell_box.CellBox.{CellBox}
 use Rattle.track_types.specs.PartsForm.{width_for}
+use Rattle.track_types.specs.Spelling.{greatest_height, holds_parts, packs_symbols, spelling_of}
 use Rattle.track_types.specs.declared.frame.Frame.{Frame}
 use Rattle.track_types.specs.Quantities.{anchors_of, block_count, distinct, extent_of, first_of, last_of, object_count, objects_of, period_count, span_of, symbol_count}
 use Rattle.track_types.specs.declared.cell.Cell.{Cell}
 use Rattle.track_types.specs.declared.region.Region.{Region}
 use Rattle.track_types.specs.declared.region.Region.TheVariants.{Disc, Rect}
 use Rattle.track_types.specs.declared.row.Row.{Row}
+use Rattle.track_types.specs.declared.spelling.Spelling.{Spelling}
 
 row : ℕ → ℤ → ℤ → ℤ → Row
 row object instant x y = record { object = object; instant = instant; cell = record { x = x; y = y } }
@@ -135,6 +137,16 @@ tall height = record {
 -- in version 1 no level is wide, in version 2 one of four, rounded down
 wide_levels : map wide_of (five ∷ tall 3 ∷ tall 4 ∷ tall 7 ∷ tall 24 ∷ []) ≡ 0 ∷ 0 ∷ 1 ∷ 1 ∷ 6 ∷ []
 wide_levels = refl
+
+-- the three versions of the format
+abbrev spellings : List Spelling
+spellings = map spelling_of (1 ∷ 2 ∷ 3 ∷ [])
+
+-- the third holds no parts, and the first alone has symbols of four bytes and a lower greatest height
+versions : (map holds_parts spellings ≡ true ∷ true ∷ false ∷ [])
+    × (map packs_symbols spellings ≡ false ∷ true ∷ true ∷ [])
+    × (map greatest_height spellings ≡ 20 ∷ 24 ∷ 24 ∷ [])
+versions = (refl, refl, refl)
 
 -- one bit for no symbol, one and two; two for three and four, three for five
 widths : map width_for (0 ∷ 1 ∷ 2 ∷ 3 ∷ 4 ∷ 5 ∷ 256 ∷ 257 ∷ []) ≡ 1 ∷ 1 ∷ 1 ∷ 2 ∷ 2 ∷ 3 ∷ 8 ∷ 9 ∷ []

@@ -6,6 +6,7 @@ pub mod QuantityLemmas
 pub mod ExtentLemmas
 pub mod ChartLemmas
 pub mod TimelineLemmas
+pub mod SpellingLemmas
 pub mod RowLemmas
 pub mod RegionLemmas
 pub mod BoxLemmas

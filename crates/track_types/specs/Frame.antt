@@ -1,13 +1,14 @@
 -- The header of an index: its ranges, its instants and periods, and its grid.
-use Rattle.std.specs.Prelude.{◌≡◌, ℕ, ◌-◌, ◌/◌, ◌^◌, ◌≤◌, nat_lt, if◌then◌else◌, ℤ, pos, neg_ℤ, ◌+ℤ◌, ◌≤ℤ◌, Bool, Option}
+use Rattle.std.specs.Prelude.{ℕ, ◌-◌, ◌^◌, ◌≤◌, ℤ, pos, neg_ℤ, ◌+ℤ◌, ◌≤ℤ◌, Bool, Option}
 use Rattle.track_types.specs.Boxes.{box_from}
 use Rattle.track_types.specs.Limits.{IsPeriod, IsResolution, limit_of}
 use Rattle.track_types.specs.Near.{IsNear}
+use Rattle.track_types.specs.Spelling.{greatest_height, spelling_of, wide_levels}
 use Rattle.track_types.specs.Timeline.{is_spanned, last_from, period_if, period_last, period_size, period_start, period_total}
 use Rattle.track_types.specs.declared.cell_box.CellBox.{CellBox}
 use Rattle.track_types.specs.declared.frame.Frame.{Frame}
 use Rattle.track_types.specs.declared.limit.LimitKind.TheVariants.{Span}
-use Rattle.track_types.specs.declared.limit.TheConstants.{MAX_HEIGHT, MAX_NARROW_HEIGHT, MAX_PLACE, MAX_VERSION}
+use Rattle.track_types.specs.declared.limit.TheConstants.{MAX_HEIGHT, MAX_PLACE, MAX_VERSION}
 
 -- the ranges of a header: a version has a greatest height, and the last instant, too, is at most `MAX_PLACE` away from 0
 pub record IsFrame (frame : Frame) : Type 0 where
@@ -16,7 +17,7 @@ pub record IsFrame (frame : Frame) : Type 0 where
   pub periods : IsPeriod frame.period
   pub some : 1 ≤ frame.height
   pub limit : frame.height ≤ MAX_HEIGHT
-  pub narrow : frame.version ≡ 1 → frame.height ≤ MAX_NARROW_HEIGHT
+  pub low : frame.height ≤ greatest_height (spelling_of frame.version)
   pub long : 1 ≤ frame.span
   pub short : frame.span ≤ limit_of Span
   pub begins : neg_ℤ (pos MAX_PLACE) ≤ℤ frame.first
@@ -28,7 +29,7 @@ pub record IsFrame (frame : Frame) : Type 0 where
 
 -- how many levels of a tree, from the top, split a square in sixteen
 abbrev pub wide_of : Frame → ℕ
-wide_of frame = if nat_lt frame.version 2 then 0 else (frame.height / 4)
+wide_of frame = wide_levels (spelling_of frame.version) frame.height
 
 -- how many periods there are
 abbrev pub periods_of : Frame → ℕ

@@ -18,6 +18,7 @@ pub mod Bounds
 pub mod FaultText
 pub mod FlawText
 pub mod Flaws
+pub mod Spelling
 pub mod Frame
 pub mod Table
 pub mod PartsForm

@@ -1,10 +1,11 @@
 -- When the parts of an index have the form of one.
-use Rattle.std.specs.Prelude.{◌≡◌, ℕ, suc, ◌+◌, ◌*◌, ◌^◌, ◌<◌, ◌≤◌, nat_le, List, length, All}
+use Rattle.std.specs.Prelude.{◌≡◌, ℕ, suc, ◌+◌, ◌*◌, ◌^◌, ◌<◌, ◌≤◌, nat_le, true, List, length, All}
 use Rattle.std.specs.List.{position_or_len, range_with_len}
 use Rattle.std.specs.List.Sorted.{IsStrictlyIncreasing}
 use Rattle.packed_bits.specs.Bits.{ones_of}
 use Rattle.track_types.specs.Frame.{IsFrame, periods_of}
 use Rattle.track_types.specs.Limits.{limit_of}
+use Rattle.track_types.specs.Spelling.{packs_symbols, spelling_of}
 use Rattle.track_types.specs.declared.limit.LimitKind.TheVariants.{Objects, Blocks, Symbols}
 use Rattle.track_types.specs.declared.limit.TheConstants.{MAX_TREE}
 use Rattle.track_types.specs.declared.parts.Parts.{Parts}
@@ -26,7 +27,7 @@ AreShortPairs pairs = All (λ pair. (pair.0 < 2 ^ 32) × (pair.1 < 2 ^ 32)) pair
 unfoldable pub width_for : ℕ → ℕ
 width_for symbols = suc (position_or_len (λ width. nat_le symbols (2 ^ width)) (range_with_len 1 26))
 
--- how many bits of the log section a symbol of an index of version 2 takes
+-- how many bits a symbol takes where symbols take as few as they can
 abbrev pub symbol_width : Parts → ℕ
 symbol_width parts = width_for (length parts.alphabet + length parts.rules)
 
@@ -59,4 +60,5 @@ pub record IsShaped (parts : Parts) : Type 0 where
   pub each : All (IsShapedPeriod (length parts.objects)) parts.periods
   pub few_symbols : length parts.symbols ≤ limit_of Symbols
   pub short_symbols : AreShort parts.symbols
-  pub narrow_symbols : 2 ≤ parts.frame.version → All (λ symbol. symbol < 2 ^ symbol_width parts) parts.symbols
+  pub narrow_symbols : packs_symbols (spelling_of parts.frame.version) ≡ true →
+      All (λ symbol. symbol < 2 ^ symbol_width parts) parts.symbols

@@ -1,5 +1,6 @@
 use crate::cell::Cell;
 use crate::cell_box::CellBox;
+use crate::spelling::Spelling;
 use crate::timeline::Timeline;
 
 /// The header of an index: where its instants and its cells begin, how far they reach, and how they
@@ -17,8 +18,7 @@ pub struct Frame {
     pub span: u32,
     /// Instants of a period: 1 to `MAX_PERIOD`. The last period ends with the span.
     pub period: u32,
-    /// The grid of cells has the side 2^height: 1 to `MAX_HEIGHT`, in version 1 to
-    /// `MAX_NARROW_HEIGHT`.
+    /// The grid of cells has the side 2^height: 1 to the greatest height of its spelling.
     pub height: u32,
     /// The least cell of the grid. Its coordinates are at most `MAX_PLACE` away from 0.
     pub base: Cell,
@@ -32,13 +32,21 @@ impl Frame {
     ghost use Rattle.std.specs.Prelude.{◌≡◌};
     ghost use Rattle.track_types.specs.Frame.{grid_of, wide_of, IsFrame};
     ghost use Rattle.track_types.specs.Near.{IsBoxWithin};
+    ghost use Rattle.track_types.specs.Spelling.{spelling_of};
+
+    /// How its version writes an index file.
+    pub fn spelling(&self) -> Spelling
+        ensures { result ≡ spelling_of self.now.version }
+    {
+        Spelling::of(self.version)
+    }
 
     /// How many levels of a period's tree, from the top, split a square in sixteen. The others split
     /// it in four. It takes no memory.
     pub fn wide_levels(&self) -> u32
         ensures { result ≡ wide_of self.now }
     {
-        if self.version < 2 { 0 } else { self.height / 4 }
+        self.spelling().wide_levels(self.height)
     }
 
     /// Its instants and periods.

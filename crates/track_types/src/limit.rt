@@ -32,7 +32,7 @@ pub const MAX_QUESTIONS: u64 = 4_294_967_296;
 /// The greatest height of a tree over cells, whose grid has a side of 2^height cells.
 pub const MAX_HEIGHT: u32 = 24;
 
-/// The greatest height of a tree in an index of version 1.
+/// The greatest height of a tree whose levels all split a square in four.
 pub const MAX_NARROW_HEIGHT: u32 = 20;
 
 /// The newest version of the format of an index.

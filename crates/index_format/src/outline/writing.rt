@@ -16,7 +16,7 @@ use rule_store::EntryTable;
 use std::alloc::Global;
 use track_types::Memory;
 
-/// The bytes of a file of version 3 that stores this outline. There are fewer than `MAX_INDEX`.
+/// The bytes of the file that stores this outline. There are fewer than `MAX_INDEX`.
 pub fn encode_outline(alloc: Global, outline: &Outline) -> Result<Vec<u8>, Memory>
     requires { IsOutline outline.now }
     ensures ok { IfOk result (λ bytes. bytes.items ≡ outline_bytes outline.now) }

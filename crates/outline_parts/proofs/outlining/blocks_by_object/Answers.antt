@@ -13,4 +13,4 @@ returns c =
     let stable = c.in_ok-sort_by_key.ensures.stable index_in (answers_always _ _ _ (λ f a r g h. search rules)) in
     let moved = c.in_ok-sort_by_key.ensures.permutation in
     placed_by_object-sorted (length parts.objects) (told_placed parts) sorted
-    (objects-low parts c.requires.valid c.requires.version) (rw made at moved) up (rw made at stable)
+    (objects-low parts c.requires) (rw made at moved) up (rw made at stable)

@@ -10,10 +10,10 @@ IsFrame-ONE_PERIOD : IsFrame ONE_PERIOD
 IsFrame-ONE_PERIOD = record {
   known = omega arith;
   newest = omega arith;
-  narrow = λ _. omega arith;
   periods = record { some = omega arith; limit = omega arith };
   some = omega arith;
   limit = omega arith;
+  low = omega arith;
   long = omega arith;
   short = omega arith;
   begins = omega (arith, ints);
@@ -28,10 +28,10 @@ IsFrame-TWO_PERIODS : IsFrame TWO_PERIODS
 IsFrame-TWO_PERIODS = record {
   known = omega arith;
   newest = omega arith;
-  narrow = λ _. omega arith;
   periods = record { some = omega arith; limit = omega arith };
   some = omega arith;
   limit = omega arith;
+  low = omega arith;
   long = omega arith;
   short = omega arith;
   begins = omega (arith, ints);

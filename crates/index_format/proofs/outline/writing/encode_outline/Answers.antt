@@ -16,7 +16,7 @@ returns-clause-ok c =
     let bits : c.put_lists.new.writer ≡ bits_in head ++ outline_bits outline =
     c.in_ok-put_lists.ensures ∙ ap (λ begun. begun ++ outline_bits outline) (c.after-writer.ensures ∙ ap bits_in out) in
     c.in_ok-into_bytes.ensures.ok ∙ ap bit_bytes bits
-    ∙ bit_bytes-append head (outline_bits outline) (IsBytes-header (outline_header outline) (omega (arith, c.requires.version)))
+    ∙ bit_bytes-append head (outline_bits outline) (IsBytes-header (outline_header outline) (omega (arith, c.requires.header.newest)))
 
 pub returns-clause-short : goal.returns-clause-short
 returns-clause-short c = omega (arith, ap length (returns-clause-ok c), outline_bytes-within c.args.outline.now c.requires)
