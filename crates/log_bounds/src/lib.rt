@@ -5,7 +5,9 @@
 #![tactic(auto)]
 
 mod bounds;
+mod grid_cell;
 mod packed_bounds;
 
 pub use bounds::LogBounds;
+pub use grid_cell::GridCell;
 pub use packed_bounds::PackedBounds;
