@@ -15,9 +15,10 @@ mod table;
 mod told;
 mod writing;
 
+use log_bounds::GridCell;
 pub use reading::{ReadOutline, outline_after};
 use std::marker::Model;
-use track_types::{Cell, Frame, List32, List64, PairList};
+use track_types::{Frame, List32, List64, PairList};
 pub use writing::encode_outline;
 
 /// What a file stores that holds no parts: nothing in it follows from the rest.
@@ -41,7 +42,7 @@ pub struct Outline {
 }
 
 /// A block of an outline: what the file tells of an object in a period.
-#[derive(Clone, Copy, Debug, PartialEq, Eq)]
+#[derive(Clone, Copy, Debug)]
 pub struct OutlineBlock {
     /// The period, from 0.
     pub period: u32,
@@ -52,7 +53,7 @@ pub struct OutlineBlock {
     /// How many symbols the log has.
     pub length: u32,
     /// The anchor's cell, counted from the base: from 0 to `2^height - 1` along each axis.
-    pub cell: Cell,
+    pub cell: GridCell,
 }
 
 /// A list of blocks, in order.

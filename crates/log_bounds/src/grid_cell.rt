@@ -30,7 +30,7 @@ impl Model for GridCell {
 }
 
 impl GridCell {
-    /// Packs a cell of a grid: neither its column nor its line is negative, and both are below 2^32.
+    /// Packs a cell of a grid: its column and its line are not negative, and below 2^32.
     pub fn pack(cell: Cell) -> GridCell
         requires column { IsWord cell.x }
         requires line { IsWord cell.y }

@@ -1,7 +1,7 @@
 //! What bounds a log: the speed that its object never passes, and the box that it never leaves.
 //!
 //! Both are found in one pass over the entries of the log's symbols, of which nothing is expanded. Searches open a log only
-//! where its bounds say that it may hold what is sought.
+//! where its bounds say that it may hold what is sought. Bounds, and cells of a grid, have a type that takes fewer bytes.
 #![tactic(auto)]
 
 mod bounds;

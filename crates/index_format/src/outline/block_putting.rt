@@ -119,14 +119,25 @@ fn put_block(
     ensures kept { IfOk result (λ after. IsKept ground.entry.frame.height after.last) }
 {
     let period = u64::from(ground.frame.period);
-    let at = u64::from(block.period) * period + u64::from(block.offset);
+    let at = instant_at(ground.frame.period, block.period, block.offset);
+    let anchor = block.cell.unpack();
     put_when(writer, reached.next, at)?;
-    put_anchor(writer, ground.frame.height, reached.last, block.cell)?;
-    let cell = put_log(writer, ground, block.cell, log)?;
+    put_anchor(writer, ground.frame.height, reached.last, anchor)?;
+    let cell = put_log(writer, ground, anchor, log)?;
     Ok(Reached {
         next: u64::from(ground.frame.span).min((at / period + 1) * period),
         last: Some(cell),
     })
+}
+
+// The instant that is so many instants after the first of a period, counted from the first of all.
+// A period has `period` instants.
+fn instant_at(period: u32, number: u32, offset: u32) -> u64
+    requires { period ≤ MAX_PERIOD }
+    ensures value { result ≡ number * period + offset }
+    ensures within { result < 2 ^ 55 }
+{
+    u64::from(number) * u64::from(period) + u64::from(offset)
 }
 
 // Puts when a block begins, counted from the first instant that is not yet told.

@@ -17,7 +17,7 @@ use crate::outline::told::told;
 use crate::outline::{BlockList, OutlineBlock};
 use crate::place::Place;
 use bit_stream::BitReader;
-use log_bounds::PackedBounds;
+use log_bounds::{GridCell, PackedBounds};
 use rule_store::EntryTable;
 use std::alloc::Global;
 use track_types::{Cell, FormatFault, Frame, Kind, List32, Section};
@@ -186,7 +186,7 @@ fn block_in(
         period,
         index,
         offset: at - period * ground.frame.period,
-        cell,
+        cell: GridCell::pack(cell),
         length: (progress.symbols.len() - before) as u32,
     })?;
     progress.bounds.push(PackedBounds::pack(log.bounds))?;

@@ -12,7 +12,8 @@ returns-clause-bits c view whole =
     let when = when_bits c.args.reached.next (anchor_instant c.args.ground.frame c.args.block.now) in
     let anchor = anchor_bits c.args.ground.frame.height c.args.reached.last c.args.block.now.cell in
     let entries = flat_map (low_bits (entry_width view)) c.args.log.now in
-    c.in_ok-cell.ensures.bits view whole ∙ ap (λ front. front ++ entries) (c.in_ok-put_anchor.ensures ∙ ap (λ front. front ++ anchor)
-    (rw (c.from-period.ensures, c.from.ensures, c.from-2.ensures) at c.in_ok-put_when.ensures))
+    c.in_ok-cell.ensures.bits view whole
+    ∙ ap (λ front. front ++ entries) ((rw c.unpack-anchor.ensures.value at c.in_ok-put_anchor.ensures) ∙ ap (λ front. front ++ anchor)
+    (rw c.instant_at-at.ensures.value at c.in_ok-put_when.ensures))
     ∙ append_assoc (before ++ when) anchor entries ∙ append_assoc before when (anchor ++ entries)
     ∙ ap (λ bits. before ++ bits) (sym (append_assoc when anchor entries))

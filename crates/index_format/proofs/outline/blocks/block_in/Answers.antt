@@ -22,7 +22,7 @@ pub returns-clause-exact : goal.returns-clause-exact
 returns-clause-exact c view whole =
     let long = c.len.ensures ∙ c.log_in.new.symbols.ok.0 in
     let before = c.len-before.ensures ∙ c.args.progress.now.symbols.ok.0 in
-    rw (c.in_ok-push.ensures.items, long, before, c.min-end.ensures) (block_in-ok c.args.ground.frame view c.args.index
+    rw (c.in_ok-push.ensures.items, c.pack.ensures, long, before, c.min-end.ensures) (block_in-ok c.args.ground.frame view c.args.index
     (told_of c.args.progress.now) c.args.at c.args.reader.now c.in_ok-cell.cell c.anchor_in.new.reader
     c.in_ok-cell.ensures.exact (record { symbols = c.log_in.new.symbols.items; rest = c.in_ok-log.log.at.rest; cell = c.in_ok-log.log.at.cell })
     c.log_in.new.reader (rw c.min-end.ensures at (c.in_ok-log.ensures.exact view whole)))
@@ -37,6 +37,6 @@ returns-clause-bounds c view whole are =
       ap length read.joined,
       length-append c.args.progress.now.symbols.items read.own,
     ) in
-    rw (c.in_ok-push.ensures.items, c.in_ok-push-2.ensures.items, read.joined)
+    rw (c.in_ok-push.ensures.items, c.pack.ensures, c.in_ok-push-2.ensures.items, read.joined)
     (bounded-more view c.args.progress.now.blocks.items c.args.progress.now.symbols.items c.args.progress.now.bounds.items _ read.own
-    c.pack.result are long (c.pack.ensures ∙ read.bounded))
+    c.pack-2.result are long (c.pack-2.ensures ∙ read.bounded))
