@@ -2,8 +2,9 @@
 use Rattle.std.proofs.Common.{◌≡◌, ◌≢◌, ℕ, ◌+◌, ◌-◌, ◌<◌, ◌≤◌, ◌==◌, Bool, true, false, not, Some, List, [], ◌∷◌, ◌++◌, length, get_or, take, drop, refl, sym, ◌∙◌, ap, arith, inl, inr}
 use Rattle.std.specs.List.{Contains}
 use Rattle.std.specs.List.Sorted.{IsNonDecreasing}
-use Rattle.std.proofs.lemmas.Bool.{cases_Bool, cases_lt, and_parts, not-true, eqb-true, eqb-false, ne_eqb, eq-eqb, both_ways}
+use Rattle.std.proofs.lemmas.Bool.{cases_Bool, cases_lt, and_parts, eqb-true, eqb-false, ne_eqb, eq-eqb}
 use Rattle.std.proofs.lemmas.List.{get_or_past, get_or_default, drop_all, take_all, append-nil, length-drop, get_or-drop}
+use Rattle.std.proofs.lemmas.Bool.Decides.{nat_tests}
 use Rattle.list_laws.proofs.MemberLemmas.{member_cases, no_member}
 use Rattle.repair_grammar.specs.RePair.{is_pair, replacement_count, block_after_pass}
 use Rattle.repair_grammar.specs.Counts.{stands_first}
@@ -23,19 +24,7 @@ head_of (x ∷ xs) none = x
 pub stands-within : (symbols : List ℕ) (pair : ℕ × ℕ) (k : ℕ) → stands_at symbols pair k ≡ true →
     (k < length symbols) × (at symbols k ≡ pair.0)
 unfolding stands_at head_of
-stands-within symbols pair k stands =
-    let parts = and_parts (not (at symbols k == GAP)) (stands_first pair (live (drop k symbols))) stands in
-    let symbol : (at symbols k == GAP) ≡ false = not-true _ parts.0 in
-    let within : k < length symbols = elim (cases_lt k (length symbols)) [
-      | inl less ↦ less
-      | inr past ↦ absurd (eqb-false (at symbols k) GAP symbol
-          (get_or_past symbols k GAP (omega (arith, past))))
-    ] in
-    let whole : live (drop k symbols) ≡ pair.0 ∷ pair.1 ∷ drop 2 (live (drop k symbols)) =
-    stands_first-whole pair (live (drop k symbols)) parts.1 in
-    let here : live (drop k symbols) ≡ at symbols k ∷ live (drop (k + 1) symbols) =
-    live-here symbols k within symbol in
-    (within, ap (λ xs. head_of xs 0) (sym here ∙ whole))
+stands-within symbols pair k stands = grind (arith, nat_tests, get_or_past, stands_first-whole, live-here)
 
 pub stands-inside : (symbols : List ℕ) (pair : ℕ × ℕ) (k : ℕ) → HasEnds symbols → pair.0 < END →
     stands_at symbols pair k ≡ true → k + 1 < length symbols
@@ -76,19 +65,7 @@ module _ (symbols : List ℕ) (p m r c l : ℕ) (near : AreNeighbours symbols p 
 
   -- the marks stay
   pub ends-joined : HasEnds then
-  ends-joined = record {
-    some = rw (after-length symbols p m r c near next_near c_fits) ends.some;
-    first = after-other symbols p m r c near next_near c_fits 0
-        (λ same. omega (arith, same, not_first symbols p ends a_plain))
-        (λ same. omega (arith, same, not_first symbols m ends b_plain))
-        ∙ ends.first;
-    last = λ k end.
-        let was : k + 1 ≡ length symbols = end ∙ after-length symbols p m r c near next_near c_fits in
-        after-other symbols p m r c near next_near c_fits k
-        (λ same. omega (arith, same, a_plain, ap (at symbols) same, ends.last k was))
-        (λ same. omega (arith, same, b_plain, ap (at symbols) same, ends.last k was))
-        ∙ ends.last k was;
-  }
+  ends-joined = grind (arith, nat_tests, after-length, c_fits, after-other, not_first)
 
   -- counts and places after the join
   module _ (next previous : List ℕ) (threads : AreThreads symbols next previous)
@@ -210,15 +187,7 @@ module _ (symbols : List ℕ) (p m r c l : ℕ) (near : AreNeighbours symbols p 
 pub passing-skip : (first symbols : List ℕ) (pair : ℕ × ℕ) (c p : ℕ) (rest : List ℕ) (q : ℕ) →
     IsPassing first symbols pair c (p ∷ rest) q → stands_at symbols pair p ≡ false →
     IsPassing first symbols pair c rest q
-passing-skip first symbols pair c p rest q passing none = record {
-  inside = passing.inside;
-  done = passing.done;
-  ahead = λ k stands. let was = passing.ahead k stands in elim (member_cases k p rest was.1) [
-    | inl same ↦ absurd (both_ways (stands_at symbols pair k) (ap (stands_at symbols pair) (sym same) ∙ none) stands)
-    | inr later ↦ (was.0, later)
-  ];
-  new = passing.new;
-}
+passing-skip first symbols pair c p rest q passing none = grind (arith, nat_tests, member_cases)
 
 -- no place is left
 pub passing-end : (first symbols : List ℕ) (pair : ℕ × ℕ) (c q : ℕ) → IsPassing first symbols pair c [] q →
@@ -274,12 +243,7 @@ order_left places i order within k inside =
 pub passing-start : (first : List ℕ) (pair : ℕ × ℕ) (c : ℕ) (places : List ℕ) →
     ((k : ℕ) → (c == at first k) ≡ false) → ((k : ℕ) → stands_at first pair k ≡ true → Contains places k) →
     IsPassing first first pair c places 0
-passing-start first pair c places new noted = record {
-  inside = omega arith;
-  done = ap (λ front. front ++ block_after_pass pair c (live first)) live-none;
-  ahead = λ k stands. (omega arith, noted k stands);
-  new = λ k from. new k;
-}
+passing-start first pair c places new noted = grind (arith, nat_tests, live-none)
 
 -- the pair stands where its symbols do
 pub stands-here : (symbols next previous : List ℕ) (pair : ℕ × ℕ) (p : ℕ) → AreThreads symbols next previous →
@@ -291,10 +255,7 @@ stands-here symbols next previous pair p threads inside stands =
 -- where its left symbol does not stand, the pair does not
 pub stands-not : (symbols : List ℕ) (pair : ℕ × ℕ) (k : ℕ) → (k < length symbols → at symbols k ≢ pair.0) →
     stands_at symbols pair k ≡ false
-stands-not symbols pair k none = elim (cases_Bool (stands_at symbols pair k)) [
-  | inl stands ↦ let is = stands-within symbols pair k stands in absurd (none is.0 is.1)
-  | inr not_so ↦ not_so
-]
+stands-not symbols pair k none = grind (arith, nat_tests, stands-within)
 
 -- the run of the new symbol before the next place ends at the last place at which a pair was replaced
 pub run-before : (first symbols : List ℕ) (pair : ℕ × ℕ) (c p l : ℕ) (places : List ℕ) (q : ℕ) (odd : Bool) →
@@ -317,15 +278,9 @@ run-before first symbols pair c p l places q odd passing stands near fits run is
 
 -- no place was passed yet
 pub run-start : (symbols : List ℕ) (c : ℕ) (odd : Bool) → IsRun symbols c 0 odd
-run-start symbols c odd = record {
-  last = λ k never. absurd (omega (arith, never));
-  parity = λ k never. absurd (omega (arith, never));
-}
+run-start symbols c odd = grind (arith, nat_tests)
 
 -- after a join
 pub run-joined : (symbols : List ℕ) (c p : ℕ) (odd : Bool) → at symbols p ≡ c →
     odd ≡ ends_odd c false (live (take (p + 1) symbols)) → IsRun symbols c (p + 1) odd
-run-joined symbols c p odd here parity = record {
-  last = λ k same. ap (at symbols) (omega (arith, same)) ∙ here;
-  parity = λ k same. parity;
-}
+run-joined symbols c p odd here parity = grind (arith, nat_tests)

@@ -3,10 +3,11 @@ use Rattle.std.proofs.Common.{◌≡◌, ◌⊎◌, ℕ, ◌<◌, ◌≤◌, Lis
 use Rattle.std.specs.List.{AllByRecursion, Contains}
 use Rattle.std.specs.List.Sorted.{IsPermutation}
 use Rattle.std.specs.Ordering.{is_lt}
-use Rattle.std.proofs.lemmas.Bool.{cases_lt, lt-ltb}
+use Rattle.std.proofs.lemmas.Bool.{cases_lt}
 use Rattle.std.proofs.lemmas.Cmp.{upto}
 use Rattle.std.proofs.lemmas.List.Elements.{All-contains, All-from_recursion, Contains-append_cases}
 use Rattle.std.proofs.lemmas.List.Sorted.{Contains-permutation}
+use Rattle.std.proofs.lemmas.Bool.Decides.{nat_tests}
 use Rattle.list_laws.proofs.MemberLemmas.{member_cases, no_member}
 use Rattle.repair_grammar.specs.declared.key.Key.{Key}
 use Rattle.repair_grammar.specs.RePair.{key_order, key_cmp, pair_count, block_after_pass, AreBelow}
@@ -50,18 +51,12 @@ covers_settled count fresh pair keys more keeps own covers = λ other two. elim 
 pub covers_all : (count : ℕ × ℕ → ℕ) (fresh : List (ℕ × ℕ)) (keys : List Key) → fresh ≡ [] →
     CoversBut fresh count keys → Covers count keys
 unfolding Covers CoversBut
-covers_all count fresh keys none covers = λ pair two. elim (covers pair two) [
-  | inl never ↦ no_member pair (rw none at never)
-  | inr key ↦ key
-]
+covers_all count fresh keys none covers = grind (arith, nat_tests, no_member)
 
 -- no key: no pair counts two
 pub covers_none : (count : ℕ × ℕ → ℕ) → Covers count [] → AllBelowTwo count
 unfolding Covers
-covers_none count covers = λ pair. elim (cases_lt 1 (count pair)) [
-  | inl two ↦ let key = covers pair two in no_member key.0 key.1
-  | inr one ↦ omega (arith, one)
-]
+covers_none count covers = grind (arith, nat_tests, no_member)
 
 module _ (count : ℕ × ℕ → ℕ) (key : Key) (rest : List Key) (covers : Covers count (key ∷ rest)) where
   -- the first key makes way for one that says its pair's count
@@ -69,29 +64,12 @@ module _ (count : ℕ × ℕ → ℕ) (key : Key) (rest : List Key) (covers : Co
       (1 < count key.pair → count key.pair ≤ key.count →
       Contains more (record { count = count key.pair; pair = key.pair })) → Covers count more
   unfolding Covers
-  covers_popped more keeps own = λ pair two. let found = covers pair two in
-      elim (member_cases found.0 key rest found.1) [
-        | inl same ↦ let at : key.pair ≡ pair = ap (λ (k : Key). k.pair) same ∙ found.2 in
-            let enough : count pair ≤ key.count = rw same found.3 in
-            rw (sym at) (
-              (record { count = count key.pair; pair = key.pair }),
-              own (rw (sym at) at two) (rw (sym at) at enough),
-              refl,
-              omega arith,
-            )
-        | inr later ↦ (found.0, keeps found.0 later, found.2, found.3)
-      ]
+  covers_popped more keeps own = grind (arith, nat_tests, member_cases)
 
   upto_counted : (other : Key) (pair : ℕ × ℕ) → other.pair ≡ pair → count pair ≤ other.count →
       IsUpTo other (record { count = count pair; pair = pair })
   unfolding key_order
-  upto_counted other pair is enough = elim (cases_lt (count pair) other.count) [
-    | inl less ↦ rw (lt-ltb (count pair) other.count less) refl
-    | inr not_less ↦ let same : count pair ≡ other.count = omega (arith, enough, not_less) in
-        let whole : other ≡ record { count = count pair; pair = pair } =
-        λ i. record { count = sym same i; pair = is i } in
-        rw whole (upto_itself (record { count = count pair; pair = pair }))
-  ]
+  upto_counted other pair is enough = grind (arith, nat_tests, upto_itself)
 
   -- the first key's pair is the first pair, where the key says its count
   pub popped_first : AllByRecursion (λ other. is_lt (key_cmp key other) ≡ false) rest →
@@ -129,19 +107,8 @@ pub covers_after : (symbol : ℕ) (pair : ℕ × ℕ) (blocks : List (List ℕ))
     ((other : ℕ × ℕ) → 0 < count_after other → (0 < count other) ⊎ Contains fresh other) →
     Covers count keys → CoversBut fresh count_after keys
 unfolding Covers CoversBut
-covers_after symbol pair blocks count count_after fresh keys below parts before after came covers = λ other two.
-    elim (came other (omega (arith, two))) [
-      | inr inside ↦ inl inside
-      | inl some ↦ let old = counted_below symbol blocks other below (omega (arith, some, before other)) in
-          let fewer : count_after other ≤ count other = omega (
-            arith,
-            before other,
-            after other,
-            counts-block_after_pass-le pair symbol other old.0 old.1 blocks,
-          ) in
-          let key = covers other (omega (arith, two, fewer)) in
-          inr (key.0, key.1, key.2, omega (arith, key.3, fewer))
-    ]
+covers_after symbol pair blocks count count_after fresh keys below parts before after came covers =
+    grind (arith, nat_tests, counted_below, counts-block_after_pass-le)
 
 -- where all that count are fresh, no key is owed
 pub covers_fresh : (count : ℕ × ℕ → ℕ) (fresh : List (ℕ × ℕ)) (keys : List Key) →

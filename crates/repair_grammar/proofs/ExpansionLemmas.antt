@@ -4,6 +4,7 @@ use Rattle.std.specs.List.{flat_map, range_with_len, AllByRecursion, Contains}
 use Rattle.std.proofs.lemmas.Bool.{cases_Bool}
 use Rattle.std.proofs.lemmas.List.FromFn.{length-map-range_with_len, get_or-map-range_with_len}
 use Rattle.std.proofs.lemmas.List.Elements.{Contains-append_cases}
+use Rattle.std.proofs.lemmas.Bool.Decides.{nat_tests}
 use Rattle.list_laws.specs.Grown.{expansions, table_of_rules}
 use Rattle.list_laws.proofs.GrownLemmas.{length-table_of_rules, table_of_rules-append, table_of_rules-keeps, table_of_rules-last}
 use Rattle.list_laws.proofs.MemberLemmas.{member_cases, no_member}
@@ -31,21 +32,13 @@ module _ {A : Type 0} (old new : ℕ → List A) (pair : ℕ × ℕ) (symbol : �
     | inr other ↦ rw (other, same x below.0, flat_map-block_after_pass (y ∷ rest) below.1) refl
   ]
 
--- the symbols after a pass
-pub below-more : (limit : ℕ) (block : List ℕ) → AllByRecursion (λ symbol. symbol < limit) block →
-    AllByRecursion (λ symbol. symbol < limit + 1) block
-below-more limit [] below = below
-below-more limit (x ∷ rest) below = (omega (arith, below.0), below-more limit rest below.1)
-
 pub below-block_after_pass : (pair : ℕ × ℕ) (symbol : ℕ) (block : List ℕ) → AllByRecursion (λ other. other < symbol) block →
     AllByRecursion (λ other. other < symbol + 1) (block_after_pass pair symbol block)
 unfolding block_after_pass
 below-block_after_pass pair symbol [] below = below
 below-block_after_pass pair symbol (x ∷ []) below = (omega (arith, below.0), below.1)
-below-block_after_pass pair symbol (x ∷ y ∷ rest) below = elim (cases_Bool (is_pair pair x y)) [
-  | inl is ↦ rw is (omega arith, below-block_after_pass pair symbol rest below.1.1)
-  | inr other ↦ rw other (omega (arith, below.0), below-block_after_pass pair symbol (y ∷ rest) below.1)
-]
+below-block_after_pass pair symbol (x ∷ y ∷ rest) below =
+    search (arith, below-block_after_pass pair symbol rest below.1.1, below-block_after_pass pair symbol (y ∷ rest) below.1)
 
 pub all_below-block_after_pass : (pair : ℕ × ℕ) (symbol : ℕ) (blocks : List (List ℕ)) → AreBelow symbol blocks →
     AreBelow (symbol + 1) (map (block_after_pass pair symbol) blocks)
@@ -99,9 +92,7 @@ length-expansions alphabet rules = length-table_of_rules (◌++◌) [] (terminal
 pub expansions-terminal : (alphabet : ℕ) (rules : List (ℕ × ℕ)) (terminal : ℕ) → terminal < alphabet →
     get_or (expansions alphabet rules) terminal [] ≡ terminal ∷ []
 expansions-terminal alphabet rules terminal below =
-    table_of_rules-keeps (◌++◌) [] (terminals alphabet) rules terminal
-    (rw (length-map-range_with_len (λ t. t ∷ []) 0 alphabet) below)
-    ∙ get_or-map-range_with_len (λ t. t ∷ []) 0 alphabet terminal terminal [] below (omega arith)
+    grind (arith, nat_tests, table_of_rules-keeps, length-map-range_with_len, get_or-map-range_with_len)
 
 -- a new rule's symbol stands for what its parts stand for, one after the other
 pub expansions-last : (alphabet : ℕ) (rules : List (ℕ × ℕ)) (pair : ℕ × ℕ) →
@@ -129,13 +120,8 @@ module _ (alphabet : ℕ) (rules : List (ℕ × ℕ)) (pair : ℕ × ℕ) where
       ≡ map (expanded alphabet rules) blocks
   unfolding expanded AreBelow
   expanded-round [] below = refl
-  expanded-round (block ∷ blocks) below = rw (
-    expanded-round blocks below.1,
-    flat_map-block_after_pass (λ symbol. get_or (expansions alphabet rules) symbol [])
-        (λ symbol. get_or (expansions alphabet (rules ++ pair ∷ [])) symbol []) pair (alphabet + length rules)
-        (expansions-last alphabet rules pair)
-        (λ symbol small. expansions-other alphabet rules (pair ∷ []) symbol small) block below.0,
-  ) refl
+  expanded-round (block ∷ blocks) below =
+      search (arith, expanded-round blocks below.1, flat_map-block_after_pass, expansions-last, expansions-other)
 
 -- to begin with, each block stands for itself
 expanded_itself : (alphabet : ℕ) (block : List ℕ) → AllByRecursion (λ symbol. symbol < alphabet) block →

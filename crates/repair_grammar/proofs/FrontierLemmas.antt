@@ -1,6 +1,7 @@
 -- A pass along the threads: what is done up to a place, and where a pair stands after a join.
 use Rattle.std.proofs.Common.{◌≡◌, ◌≢◌, ◌⊎◌, ℕ, zero, suc, ◌+◌, ◌<◌, ◌≤◌, ◌==◌, true, false, Some, List, [], ◌∷◌, ◌++◌, length, get_or, take, drop, refl, sym, ◌∙◌, ap, arith, inl, inr, append_assoc}
-use Rattle.std.proofs.lemmas.Bool.{cases_Bool, cases_lt, and_parts, not-true, eqb-true, eqb-false, ne_eqb}
+use Rattle.std.proofs.lemmas.Bool.{cases_lt, and_parts, not-true, eqb-false, ne_eqb}
+use Rattle.std.proofs.lemmas.Bool.Decides.{nat_tests}
 use Rattle.repair_grammar.specs.RePair.{is_pair, replacement_count, block_after_pass}
 use Rattle.repair_grammar.specs.Counts.{stands_first}
 use Rattle.repair_grammar.specs.Kept.{times_of}
@@ -34,18 +35,8 @@ stands-neighbours symbols pair p q near =
 pub frontier-step : (symbols : List ℕ) (pair : ℕ × ℕ) (c k : ℕ) → k < length symbols →
     stands_at symbols pair k ≡ false → passed_from symbols pair c (k + 1) ≡ passed_from symbols pair c k
 unfolding stands_at
-frontier-step symbols pair c k within none = elim (cases_Bool (at symbols k == GAP)) [
-  | inl is ↦ let gap_is : at symbols k ≡ GAP = eqb-true (at symbols k) GAP is in
-      ap (λ front. front ++ block_after_pass pair c (live (drop (k + 1) symbols))) (live-last_gap symbols k within gap_is)
-      ∙ ap (λ rest. live (take k symbols) ++ block_after_pass pair c rest) (sym (live-gap symbols k within gap_is))
-  | inr symbol ↦ let passed : stands_first pair (at symbols k ∷ live (drop (k + 1) symbols)) ≡ false =
-      rw symbol at (rw (live-here symbols k within symbol) at none) in
-      ap (λ front. front ++ block_after_pass pair c (live (drop (k + 1) symbols))) (live-last_here symbols k within symbol)
-      ∙ append_assoc (live (take k symbols)) (at symbols k ∷ []) (block_after_pass pair c (live (drop (k + 1) symbols)))
-      ∙ ap (λ rest. live (take k symbols) ++ rest)
-      (sym (ap (block_after_pass pair c) (live-here symbols k within symbol)
-      ∙ block_after_pass-passed pair c (at symbols k) (live (drop (k + 1) symbols)) passed))
-]
+frontier-step symbols pair c k within none =
+    grind (arith, nat_tests, live-last_gap, live-gap, live-here, live-last_here, append_assoc, block_after_pass-passed)
 
 pub frontier-moves : (symbols : List ℕ) (pair : ℕ × ℕ) (c n k : ℕ) → k + n ≤ length symbols →
     ((j : ℕ) → k ≤ j → j < k + n → stands_at symbols pair j ≡ false) →

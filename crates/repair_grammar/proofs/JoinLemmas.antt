@@ -1,11 +1,11 @@
 -- What the code finds around a place is what a join changes.
-use Rattle.std.proofs.Common.{◌≡◌, ℕ, suc, ◌+◌, ◌*◌, ◌<◌, ◌≤◌, ◌==◌, Bool, true, false, not, ◌&&◌, nat_lt, cond, if◌then◌else◌, Option, Some, None, List, [], ◌∷◌, ◌++◌, length, take, drop, set, IfSome, rules, refl, sym, ◌∙◌, ap, arith, inl, inr, get_or}
+use Rattle.std.proofs.Common.{◌≡◌, ℕ, suc, ◌+◌, ◌*◌, ◌<◌, ◌≤◌, ◌==◌, Bool, true, false, not, ◌&&◌, cond, if◌then◌else◌, Option, Some, None, List, [], ◌∷◌, ◌++◌, length, take, drop, set, IfSome, rules, refl, sym, ◌∙◌, ap, arith, inl, inr, get_or}
 use Rattle.std.specs.List.{Contains}
 use Rattle.std.proofs.lemmas.List.Elements.{Contains-append_left, Contains-append_right}
 use Rattle.list_laws.proofs.MemberLemmas.{first_member}
 use Rattle.std.proofs.lemmas.Bool.Decides.{nat_tests}
 use Rattle.std.proofs.lemmas.List.{append-nil}
-use Rattle.std.proofs.lemmas.Bool.{cases_Bool, cases_lt, and_parts, and_from, eqb-true, eq-eqb, ne_eqb, lt-ltb, ltb-true, both_ways}
+use Rattle.std.proofs.lemmas.Bool.{cases_Bool, cases_lt, eq-eqb, ne_eqb, lt-ltb}
 use Rattle.repair_grammar.specs.RePair.{is_pair}
 use Rattle.repair_grammar.specs.Counts.{met_after}
 use Rattle.repair_grammar.specs.Kept.{noted_at, times_of}
@@ -23,54 +23,31 @@ use Rattle.repair_grammar.specs.declared.text.TheConstants.{END, GAP}
 module _ (other : ℕ × ℕ) (plain : IsUnmarked other) where
   pub plain_times : (x y : ℕ) → times_of (plain_of x y) other ≡ times_of (Some (x, y)) other
   unfolding plain_of times_of
-  plain_times x y = elim (cases_Bool (nat_lt x END && nat_lt y END)) [
-    | inl both ↦ rw both refl
-    | inr mark ↦ elim (cases_Bool (is_pair other x y)) [
-      | inl is ↦ absurd (both_ways (nat_lt x END && nat_lt y END) mark (and_from _ _
-          (lt-ltb x END (omega (arith, left_of_pair other x y is, plain.0)))
-          (lt-ltb y END (omega (arith, right_of_pair other x y is, plain.1)))))
-      | inr apart ↦ rw (mark, apart) refl
-    ]
-  ]
+  plain_times x y = grind (arith, nat_tests, left_of_pair, right_of_pair)
 
   pub gone_left-times : (front : List ℕ) (x a b : ℕ) → times_of
       (gone_left (ends_odd a false (front ++ x ∷ [])) x a b) other
       ≡ times_of (left_gone front x a b) other
   unfolding gone_left left_gone
-  gone_left-times front x a b = elim (cases_Bool (x == a)) [
-    | inl is ↦ rw is refl
-    | inr apart ↦ rw apart (plain_times x a)
-  ]
+  gone_left-times front x a b = grind (arith, nat_tests, plain_times)
 
   pub gone_right-times : (a b y : ℕ) (rest : List ℕ) → times_of (gone_right (begins_odd b (y ∷ rest)) a b y) other
       ≡ times_of (right_gone a b y rest) other
   unfolding gone_right right_gone
-  gone_right-times a b y rest = elim (cases_Bool (y == b)) [
-    | inl is ↦ rw is refl
-    | inr apart ↦ rw apart (plain_times b y)
-  ]
+  gone_right-times a b y rest = grind (arith, nat_tests, plain_times)
 
   pub come_left-times : (front : List ℕ) (x c : ℕ) →
       times_of (only_if (counts_left (ends_odd c false (front ++ x ∷ [])) x c) (plain_of x c)) other
       ≡ times_of (left_come front x c) other
   unfolding left_come
-  come_left-times front x c = elim (cases_Bool (x == c)) [
-    | inl is ↦ rw is (elim (cases_Bool (ends_odd c false (front ++ x ∷ []))) [
-      | inl odd ↦ rw odd (plain_times x c ∙ ap (λ z. times_of (Some (z, c)) other) (eqb-true x c is))
-      | inr even ↦ rw even refl
-    ])
-    | inr apart ↦ rw apart (plain_times x c)
-  ]
+  come_left-times front x c = grind (arith, nat_tests, plain_times)
 
 -- a pair that counts once more or not
 pub one_of : (counts : Bool) (pair other : ℕ × ℕ) →
     times_of (only_if counts (Some pair)) other ≡ cond (is_pair other pair.0 pair.1) (cond counts 1 0) 0
 unfolding times_of
 one_of true pair other = refl
-one_of false pair other = elim (cases_Bool (is_pair other pair.0 pair.1)) [
-  | inl is ↦ rw is refl
-  | inr apart ↦ rw apart refl
-]
+one_of false pair other = grind (arith, nat_tests)
 
 pub one_of_none : (counts : Bool) (other : ℕ × ℕ) → times_of (only_if counts None) other ≡ 0
 unfolding times_of
@@ -98,18 +75,12 @@ noted_as false old place = sym (append-nil old)
 length-noted_at : (pair : Option (ℕ × ℕ)) (place : ℕ) (other : ℕ × ℕ) → length (noted_at pair place other) ≡ times_of pair other
 unfolding times_of
 length-noted_at None place other = refl
-length-noted_at (Some pair) place other = elim (cases_Bool (is_pair other pair.0 pair.1)) [
-  | inl is ↦ rw is refl
-  | inr apart ↦ rw apart refl
-]
+length-noted_at (Some pair) place other = grind (arith, nat_tests)
 
 pub times_le : (pair : Option (ℕ × ℕ)) (other : ℕ × ℕ) → times_of pair other ≤ 1
 unfolding times_of
 times_le None other = omega arith
-times_le (Some pair) other = elim (cases_Bool (is_pair other pair.0 pair.1)) [
-  | inl is ↦ rw is (omega arith)
-  | inr apart ↦ rw apart (omega arith)
-]
+times_le (Some pair) other = grind (arith, nat_tests)
 
 -- a pair that is to count once less, counts
 pub some_counts : (pair : Option (ℕ × ℕ)) (count : ℕ × ℕ → ℕ) → IfSome pair IsUnmarked →
@@ -119,65 +90,32 @@ some_counts (Some pair) count plain enough = omega (arith, enough pair plain, ti
 
 pub plain_is : (x y : ℕ) → IfSome (plain_of x y) IsUnmarked
 unfolding plain_of
-plain_is x y = elim (cases_Bool (nat_lt x END && nat_lt y END)) [
-  | inl both ↦ let parts = and_parts (nat_lt x END) (nat_lt y END) both in
-      rw both (ltb-true x END parts.0, ltb-true y END parts.1)
-  | inr mark ↦ rw mark (search rules)
-]
+plain_is x y = grind (arith, nat_tests)
 
 pub gone_left-plain : (odd : Bool) (x a b : ℕ) → a < END → IfSome (gone_left odd x a b) IsUnmarked
 unfolding gone_left
-gone_left-plain odd x a b fits = elim (cases_Bool (x == a)) [
-  | inl is ↦ rw is (elim (cases_Bool (not (a == b) && odd)) [
-    | inl counts ↦ rw counts (fits, fits)
-    | inr none ↦ rw none (search rules)
-  ])
-  | inr apart ↦ rw apart (plain_is x a)
-]
+gone_left-plain odd x a b fits = grind (arith, nat_tests, plain_is)
 
 pub gone_right-plain : (odd : Bool) (a b y : ℕ) → b < END → IfSome (gone_right odd a b y) IsUnmarked
 unfolding gone_right
-gone_right-plain odd a b y fits = elim (cases_Bool (y == b)) [
-  | inl is ↦ rw is (elim (cases_Bool (not (a == b) && odd)) [
-    | inl counts ↦ rw counts (fits, fits)
-    | inr none ↦ rw none (search rules)
-  ])
-  | inr apart ↦ rw apart (plain_is b y)
-]
+gone_right-plain odd a b y fits = grind (arith, nat_tests, plain_is)
 
 -- a pair that counts by a step is plain
 pub counted_plain : (counts : Bool) (x y : ℕ) (other : ℕ × ℕ) → 0 < times_of (only_if counts (plain_of x y)) other →
     IsUnmarked other
 unfolding plain_of times_of
 counted_plain false x y other some = absurd (omega (arith, some))
-counted_plain true x y other some = elim (cases_Bool (nat_lt x END && nat_lt y END)) [
-  | inl both ↦ elim (cases_Bool (is_pair other x y)) [
-    | inl is ↦ let parts = and_parts (nat_lt x END) (nat_lt y END) both in (
-      omega (arith, left_of_pair other x y is, ltb-true x END parts.0),
-      omega (arith, right_of_pair other x y is, ltb-true y END parts.1),
-    )
-    | inr apart ↦ absurd (let none : 0 < 0 = rw apart at (rw both at some) in omega (arith, none))
-  ]
-  | inr mark ↦ absurd (let none : 0 < 0 = rw mark at some in omega (arith, none))
-]
+counted_plain true x y other some = grind (arith, nat_tests, left_of_pair, right_of_pair)
 
 live-length : (symbols : List ℕ) → length (live symbols) ≤ length symbols
 unfolding live
 live-length [] = omega arith
-live-length (x ∷ symbols) = elim (cases_Bool (x == GAP)) [
-  | inl is ↦ rw is (omega (arith, live-length symbols))
-  | inr apart ↦ rw apart (omega (arith, live-length symbols))
-]
+live-length (x ∷ symbols) = grind (arith, nat_tests, live-length symbols)
 
 -- there is room for counts
 pub counted_room : (symbols : List ℕ) (count : ℕ × ℕ → ℕ) (places : ℕ × ℕ → List ℕ) (own : ℕ × ℕ) →
     IsCounted symbols count places → IsUnmarked own → 2 * count own ≤ length symbols
-counted_room symbols count places own counted plain = omega (
-  arith,
-  counted.counts own plain,
-  replacement_count-le own (live symbols),
-  live-length symbols,
-)
+counted_room symbols count places own counted plain = grind (arith, nat_tests, replacement_count-le, live-length)
 
 pub some_weaker : (pair : Option (ℕ × ℕ)) (P Q : ℕ × ℕ → Type 0) → ((own : ℕ × ℕ) → P own → Q own) → IfSome pair P →
     IfSome pair Q
@@ -327,26 +265,13 @@ pub first_step : (taken : Bool) (pair : ℕ × ℕ) (x : ℕ) (rest : List ℕ) 
     ≡ times_of (only_if (not (taken && (x == get_or rest i 0))) (plain_of x (get_or rest i 0))) pair
     + met_after (not (taken && (x == get_or rest i 0)) && (x == get_or rest i 0)) pair
     (get_or rest i 0 ∷ drop (i + 1) rest)
-first_step taken pair x rest i within plain = elim (cases_Bool (taken && (x == get_or rest i 0))) [
-  | inl overlaps ↦ rw overlaps (omega (arith, overlap_step taken pair x rest i within overlaps, times_of-none pair))
-  | inr free ↦ rw free (omega (
-    arith,
-    counted_step taken pair x rest i within free,
-    plain_times pair plain x (get_or rest i 0),
-    times_of-some (x, get_or rest i 0) pair,
-  ))
-]
+first_step taken pair x rest i within plain =
+    grind (arith, nat_tests, overlap_step, times_of-none, counted_step, plain_times, times_of-some)
 
 -- a row without gaps: neighbours stand side by side
 pub row_near : (row : List ℕ) (k : ℕ) → ((j : ℕ) → j < length row → at row j < GAP) → k + 1 < length row →
     AreNeighbours row k (k + 1)
-row_near row k words inside = record {
-  before = omega arith;
-  within = inside;
-  left_stands = words k (omega arith);
-  right_stands = words (k + 1) inside;
-  gaps = λ j from to. absurd (omega (arith, from, to));
-}
+row_near row k words inside = grind (arith, nat_tests)
 
 -- one place more is noted
 pub first_noted : (row : List ℕ) (old new : ℕ × ℕ → List ℕ) (i x y : ℕ) →
@@ -382,19 +307,8 @@ live-all (x ∷ row) words =
 -- of two pairs that a new symbol has with its neighbours, which are not both the symbol, no other pair is both
 times_of-apart : (x y : ℕ) (other : ℕ × ℕ) → (y == other.1) ≡ false → times_of (plain_of x y) other ≡ 0
 unfolding times_of plain_of
-times_of-apart x y other apart = elim (cases_Bool (nat_lt x END && nat_lt y END)) [
-  | inl plain ↦ rw plain (grind (arith, apart))
-  | inr mark ↦ rw mark refl
-]
+times_of-apart x y other apart = grind (arith, nat_tests)
 
 pub noted_once : (x s y left place : ℕ) (other : ℕ × ℕ) → (s == y) ≡ false →
     length (noted_at (plain_of x s) left other) + length (noted_at (plain_of s y) place other) ≤ 1
-noted_once x s y left place other differ =
-    let first = length-noted_at (plain_of x s) left other in
-    let second = length-noted_at (plain_of s y) place other in
-    elim (cases_Bool (s == other.1)) [
-      | inl is ↦
-          let apart : (y == other.1) ≡ false = grind (arith, nat_tests, is, differ) in
-          omega (arith, first, second, times_le (plain_of x s) other, times_of-apart s y other apart)
-      | inr apart ↦ omega (arith, first, second, times_le (plain_of s y) other, times_of-apart x s other apart)
-    ]
+noted_once x s y left place other differ = grind (arith, nat_tests, length-noted_at, times_le, times_of-apart)

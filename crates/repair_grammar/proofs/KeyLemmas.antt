@@ -1,14 +1,15 @@
 -- The key that a round takes.
-use Rattle.std.proofs.Common.{◌≡◌, ℕ, ◌<◌, Bool, false, nat_lt, List, [], ◌∷◌, map, filter, Some, None, Ordering, refl, sym, ap, arith, inl, inr}
+use Rattle.std.proofs.Common.{◌≡◌, ℕ, ◌<◌, Bool, false, nat_lt, List, [], ◌∷◌, map, filter, Some, None, Ordering, refl, sym, arith, inl, inr}
 use Rattle.std.specs.Cmp.{IsTotalOrder}
 use Rattle.std.specs.List.{Contains, flat_map, sum_by}
-use Rattle.std.specs.Ordering.{nat_cmp, is_lt, ordering_reverse, ordering_then}
+use Rattle.std.specs.Ordering.{is_lt, ordering_reverse}
 use Rattle.std.specs.declared.cmp.Ordering.TheVariants.{Less, Equal, Greater}
 use Rattle.std.proofs.lemmas.Bool.{cases_lt, not-true, not_from_false, ltb-true, lt-ltb, le-ltb}
 use Rattle.std.proofs.lemmas.Map.Lookups.{exact_pairs, exact_unsigned}
 use Rattle.std.proofs.lemmas.Cmp.{then_total, on_total, back_total, nat_cmp_total}
 use Rattle.std.proofs.lemmas.List.Elements.{Contains-append_left, Contains-append_right}
 use Rattle.std.proofs.lemmas.List.Sums.{sum_by-cons}
+use Rattle.std.proofs.lemmas.Bool.Decides.{nat_tests}
 use Rattle.list_laws.proofs.MemberLemmas.{Contains-map, Contains-filter, find-only, filter-none, member_of_filter, member_of_map, member_of_find, list_any-none, none_from_list_any}
 use Rattle.repair_grammar.specs.declared.key.Key.{Key}
 use Rattle.repair_grammar.specs.RePair.{replacement_count, pair_count, pairs_in, key_of, key_cmp, key_order, is_first_of, keys_of, first_key}
@@ -25,10 +26,7 @@ key_order_total = then_total (back_total (on_total (λ (key : Key). key.count) n
 -- keys that the order does not tell apart are one
 pub exact_keys : (a b : Key) → key_order a b ≡ Equal → a ≡ b
 unfolding key_order
-exact_keys a b tied = ap (λ (p : ℕ × (ℕ × ℕ)). let key : Key = record { count = p.0; pair = p.1 } in key)
-    (exact_pairs (λ m n. nat_cmp n m) (λ (p q : ℕ × ℕ). ordering_then (nat_cmp p.0 q.0) (nat_cmp p.1 q.1))
-    (λ m n same. sym (exact_unsigned n m same)) (exact_pairs nat_cmp nat_cmp exact_unsigned exact_unsigned)
-    (a.count, a.pair) (b.count, b.pair) tied)
+exact_keys a b tied = grind (arith, nat_tests, exact_pairs, exact_unsigned)
 
 -- the greater key is the one that rounds take first
 pub key_cmp-is : (a b : Key) → key_cmp a b ≡ key_order b a

@@ -1,7 +1,7 @@
 -- The table of pairs: one entry that is written, and one that comes.
-use Rattle.std.proofs.Common.{◌≡◌, ℕ, ◌+◌, ◌<◌, ◌≤◌, cond, if◌then◌else◌, Option, Some, None, [], ◌++◌, length, refl, sym, ◌∙◌, ap, arith, inl, inr}
-use Rattle.std.proofs.lemmas.Bool.{cases_Bool, cases_lt}
+use Rattle.std.proofs.Common.{◌≡◌, ℕ, ◌+◌, ◌<◌, ◌≤◌, cond, if◌then◌else◌, Option, Some, None, [], ◌++◌, length, refl, arith, inl}
 use Rattle.std.specs.List.{Contains}
+use Rattle.std.proofs.lemmas.Bool.Decides.{nat_tests}
 use Rattle.repair_grammar.specs.declared.pairs.Seen.{Seen}
 use Rattle.repair_grammar.specs.declared.pairs.Pairs.{Pairs}
 use Rattle.repair_grammar.specs.RePair.{is_pair}
@@ -29,27 +29,16 @@ places-some seen = refl
 pub removed-few : (old new : ℕ × ℕ → Option Seen) (pair other : ℕ × ℕ) →
     new other ≡ cond (is_pair other pair.0 pair.1) None (old other) →
     length (places_in_entry (new other)) ≤ length (places_in_entry (old other))
-removed-few old new pair other now = elim (cases_Bool (is_pair other pair.0 pair.1)) [
-  | inl is ↦ let value : new other ≡ None = rw is at now in rw (value, places-none) (omega arith)
-  | inr apart ↦ let value : new other ≡ old other = rw apart at now in rw value (omega arith)
-]
+removed-few old new pair other now = grind (arith, nat_tests, places-none)
 
 -- an entry that goes, where its pair counts no more
 module _ (old new : ℕ × ℕ → Option Seen) (pair other : ℕ × ℕ)
     (now : new other ≡ cond (is_pair other pair.0 pair.1) None (old other)) (none : count_in_entry (old pair) ≡ 0) where
   pub removed-count : count_in_entry (new other) ≡ count_in_entry (old other)
-  removed-count = elim (cases_Bool (is_pair other pair.0 pair.1)) [
-    | inl is ↦ let value : new other ≡ None = rw is at now in
-        rw (value, sym (whole_pair other pair.0 pair.1 is)) (count-none ∙ sym none)
-    | inr apart ↦ let value : new other ≡ old other = rw apart at now in rw value refl
-  ]
+  removed-count = grind (arith, nat_tests, whole_pair, count-none)
 
   pub removed-places : 0 < count_in_entry (new other) → places_in_entry (new other) ≡ places_in_entry (old other)
-  removed-places some = elim (cases_Bool (is_pair other pair.0 pair.1)) [
-    | inl is ↦ let value : new other ≡ None = rw is at now in
-        absurd (omega (arith, some, ap count_in_entry value, count-none))
-    | inr apart ↦ let value : new other ≡ old other = rw apart at now in rw value refl
-  ]
+  removed-places some = grind (arith, nat_tests, count-none)
 
 module _ (old new : ℕ × ℕ → Option Seen) (pair other : ℕ × ℕ) (written : Seen)
     (now : new other ≡ cond (is_pair other pair.0 pair.1) (Some written) (old other)) where
@@ -57,74 +46,35 @@ module _ (old new : ℕ × ℕ → Option Seen) (pair other : ℕ × ℕ) (writt
   pub places_same : (seen : Seen) → old pair ≡ Some seen → written.places.items ≡ seen.places.items →
       places_in_entry (new other) ≡ places_in_entry (old other)
   unfolding places_in_entry
-  places_same seen was same = elim (cases_Bool (is_pair other pair.0 pair.1)) [
-    | inl is ↦ let value : new other ≡ Some written = rw is at now in
-        let before : old other ≡ Some seen = ap old (sym (whole_pair other pair.0 pair.1 is)) ∙ was in
-        rw (value, before) same
-    | inr apart ↦ let value : new other ≡ old other = rw apart at now in rw value refl
-  ]
+  places_same seen was same = grind (arith, nat_tests)
 
   -- an entry that comes
   pub count_new : old pair ≡ None → count_in_entry (new other)
       ≡ count_in_entry (old other) + cond (is_pair other pair.0 pair.1) written.count 0
   unfolding count_in_entry
-  count_new none = elim (cases_Bool (is_pair other pair.0 pair.1)) [
-    | inl is ↦ let value : new other ≡ Some written = rw is at now in
-        let before : old other ≡ None = ap old (sym (whole_pair other pair.0 pair.1 is)) ∙ none in
-        rw (value, before, is) (omega arith)
-    | inr apart ↦ let value : new other ≡ old other = rw apart at now in rw (value, apart) (omega arith)
-  ]
+  count_new none = grind (arith, nat_tests)
 
   pub places_new : old pair ≡ None → places_in_entry (new other)
       ≡ (if is_pair other pair.0 pair.1 then places_in_entry (old other) ++ written.places.items
       else places_in_entry (old other))
   unfolding places_in_entry
-  places_new none = elim (cases_Bool (is_pair other pair.0 pair.1)) [
-    | inl is ↦ let value : new other ≡ Some written = rw is at now in
-        let before : old other ≡ None = ap old (sym (whole_pair other pair.0 pair.1 is)) ∙ none in
-        rw (value, before, is) refl
-    | inr apart ↦ let value : new other ≡ old other = rw apart at now in rw (value, apart) refl
-  ]
+  places_new none = grind (arith, nat_tests)
 
 -- what has come to count after nothing, and after two changes
 pub come_none : (pairs : Pairs) → HasCome pairs pairs
 come_none pairs = record { kept = λ pair inside. inside; came = λ pair some. inl some }
 
 pub come_then : (first second third : Pairs) → HasCome first second → HasCome second third → HasCome first third
-come_then first second third one two = record {
-  kept = λ pair inside. two.kept pair (one.kept pair inside);
-  came = λ pair some. elim (two.came pair some) [
-    | inl between ↦ elim (one.came pair between) [
-      | inl before ↦ inl before
-      | inr inside ↦ inr (two.kept pair inside)
-    ]
-    | inr inside ↦ inr inside
-  ];
-}
+come_then first second third one two = grind (arith, nat_tests)
 
 -- and where counts fall
 pub come_fewer : (old new : Pairs) → new.fresh ≡ old.fresh → ((pair : ℕ × ℕ) → count_of new pair ≤ count_of old pair) →
     HasCome old new
-come_fewer old new same fewer = record {
-  kept = λ pair inside. rw same inside;
-  came = λ pair some. inl (omega (arith, some, fewer pair));
-}
+come_fewer old new same fewer = grind (arith, nat_tests)
 
 -- and where a pair was noted
 pub come_noted : (old new : Pairs) (pair : ℕ × ℕ) (one count : ℕ) → one ≤ 1 → count ≡ count_of old pair + one →
     ((other : ℕ × ℕ) → count_of new other ≡ count_of old other + cond (is_pair other pair.0 pair.1) one 0) →
     ((other : ℕ × ℕ) → Contains old.fresh.items other → Contains new.fresh.items other) →
     (count ≡ 1 → Contains new.fresh.items pair) → HasCome old new
-come_noted old new pair one count few is counts keeps own = record {
-  kept = keeps;
-  came = λ other some. elim (cases_lt 0 (count_of old other)) [
-    | inl before ↦ inl before
-    | inr none ↦ elim (cases_Bool (is_pair other pair.0 pair.1)) [
-      | inl same ↦ let whole : pair ≡ other = whole_pair other pair.0 pair.1 same in
-          let now : count_of new other ≡ count_of old other + one = rw same at (counts other) in
-          inr (rw (sym whole) (own (omega (arith, is, few, some, none, now, ap (count_of old) whole))))
-      | inr apart ↦ let now : count_of new other ≡ count_of old other + 0 = rw apart at (counts other) in
-          absurd (omega (arith, some, none, now))
-    ]
-  ];
-}
+come_noted old new pair one count few is counts keeps own = grind (arith, nat_tests, whole_pair)

@@ -1,9 +1,9 @@
 -- One pass from left to right: what it meets, and what it leaves.
-use Rattle.std.proofs.Common.{◌≡◌, ℕ, suc, ◌+◌, ◌*◌, ◌<◌, ◌≤◌, ◌==◌, Bool, true, false, cond, ◌&&◌, List, [], ◌∷◌, ◌++◌, length, get_or, take, drop, set, refl, sym, ◌∙◌, ap, arith, inl, inr, append_assoc, add-one}
+use Rattle.std.proofs.Common.{◌≡◌, ℕ, suc, ◌+◌, ◌*◌, ◌<◌, ◌≤◌, ◌==◌, Bool, true, false, cond, ◌&&◌, List, [], ◌∷◌, length, get_or, drop, refl, sym, ◌∙◌, arith, inl, inr, add-one}
 use Rattle.std.specs.List.{Contains}
-use Rattle.std.proofs.lemmas.Bool.{cases_Bool, and_parts, and_left, and_right, and_cases, both_ways, eqb-true, eqb-false, ne_eqb, false_from_ne_true}
-use Rattle.std.proofs.lemmas.List.{take_more_set, drop-set-lt, drop-drop}
+use Rattle.std.proofs.lemmas.Bool.{cases_Bool, and_parts, and_left, eqb-true, eqb-false, ne_eqb, false_from_ne_true}
 use Rattle.std.proofs.Math.Seq.{drop-cons}
+use Rattle.std.proofs.lemmas.Bool.Decides.{nat_tests}
 use Rattle.list_laws.proofs.MemberLemmas.{first_member, later_member}
 use Rattle.repair_grammar.specs.RePair.{is_pair, replacement_count, block_after_pass, pairs_in}
 use Rattle.repair_grammar.specs.Counts.{met_after, stands_first}
@@ -24,20 +24,16 @@ pub length-block_after_pass : (pair : ℕ × ℕ) (symbol : ℕ) (block : List �
 unfolding block_after_pass replacement_count
 length-block_after_pass pair symbol [] = refl
 length-block_after_pass pair symbol (x ∷ []) = refl
-length-block_after_pass pair symbol (x ∷ y ∷ rest) = elim (cases_Bool (is_pair pair x y)) [
-  | inl is ↦ rw is (omega (arith, length-block_after_pass pair symbol rest))
-  | inr other ↦ rw other (omega (arith, length-block_after_pass pair symbol (y ∷ rest)))
-]
+length-block_after_pass pair symbol (x ∷ y ∷ rest) =
+    grind (arith, nat_tests, length-block_after_pass pair symbol rest, length-block_after_pass pair symbol (y ∷ rest))
 
 -- each one takes two
 pub replacement_count-le : (pair : ℕ × ℕ) (block : List ℕ) → 2 * replacement_count pair block ≤ length block
 unfolding replacement_count
 replacement_count-le pair [] = omega arith
 replacement_count-le pair (x ∷ []) = omega arith
-replacement_count-le pair (x ∷ y ∷ rest) = elim (cases_Bool (is_pair pair x y)) [
-  | inl is ↦ rw is (omega (arith, replacement_count-le pair rest))
-  | inr other ↦ rw other (omega (arith, replacement_count-le pair (y ∷ rest)))
-]
+replacement_count-le pair (x ∷ y ∷ rest) =
+    grind (arith, nat_tests, replacement_count-le pair rest, replacement_count-le pair (y ∷ rest))
 
 -- a pair that is met stands side by side
 pub met_stands : (pair : ℕ × ℕ) (block : List ℕ) → 0 < replacement_count pair block → Contains (pairs_in block) pair
@@ -81,10 +77,7 @@ met_after-overlap pair x rest = elim (cases_Bool (is_pair pair x x)) [ inl is �
 counted_alike : (pair : ℕ × ℕ) (x : ℕ) (rest : List ℕ) →
     met_after false pair (x ∷ x ∷ rest) ≡ cond (is_pair pair x x) 1 0 + met_after true pair (x ∷ rest)
 unfolding met_after replacement_count
-counted_alike pair x rest = elim (cases_Bool (is_pair pair x x)) [
-  | inl is ↦ rw is (omega arith)
-  | inr other ↦ rw other (omega arith)
-]
+counted_alike pair x rest = grind (arith, nat_tests)
 
 -- of two others
 apart_from : (pair : ℕ × ℕ) (x y : ℕ) → (x == y) ≡ false → is_pair pair x y ≡ true → is_pair pair x x ≡ false
@@ -97,17 +90,7 @@ passed_next pair x y apart is = ne_eqb y pair.0 (λ same. eqb-false x y apart (l
 counted_apart : (taken : Bool) (pair : ℕ × ℕ) (x y : ℕ) (rest : List ℕ) → (x == y) ≡ false →
     met_after taken pair (x ∷ y ∷ rest) ≡ cond (is_pair pair x y) 1 0 + met_after false pair (y ∷ rest)
 unfolding met_after replacement_count
-counted_apart taken pair x y rest apart = elim (cases_Bool (is_pair pair x y)) [
-  | inl is ↦ rw (
-    and_right taken (is_pair pair x x) (apart_from pair x y apart is),
-    is,
-    replacement_count-other pair y rest (passed_next pair x y apart is),
-  ) (omega arith)
-  | inr other ↦ elim (cases_Bool (taken && is_pair pair x x)) [
-    | inl alike ↦ rw (alike, other) (omega arith)
-    | inr unlike ↦ rw (unlike, other) (omega arith)
-  ]
-]
+counted_apart taken pair x y rest apart = grind (arith, nat_tests, apart_from, replacement_count-other, passed_next)
 
 -- so each pair counts that doesn't overlap the one before it
 counted_same : (taken : Bool) (pair : ℕ × ℕ) (x y : ℕ) (rest : List ℕ) → (x == y) ≡ true → taken ≡ false →
@@ -116,13 +99,7 @@ counted_same taken pair x y rest same fresh = rw (fresh, sym (eqb-true x y same)
 
 pub met_after-counted : (taken : Bool) (pair : ℕ × ℕ) (x y : ℕ) (rest : List ℕ) → (taken && (x == y)) ≡ false →
     met_after taken pair (x ∷ y ∷ rest) ≡ cond (is_pair pair x y) 1 0 + met_after (x == y) pair (y ∷ rest)
-met_after-counted taken pair x y rest free = elim (cases_Bool (x == y)) [
-  | inr apart ↦ rw apart (counted_apart taken pair x y rest apart)
-  | inl same ↦ elim (and_cases taken (x == y) free) [
-    | inl fresh ↦ rw same (counted_same taken pair x y rest same fresh)
-    | inr apart ↦ absurd (both_ways (x == y) apart same)
-  ]
-]
+met_after-counted taken pair x y rest free = grind (arith, nat_tests, counted_apart, counted_same)
 
 -- one symbol more of a walk through a block
 module _ (taken : Bool) (pair : ℕ × ℕ) (x : ℕ) (rest : List ℕ) (i : ℕ) (within : i < length rest) where
@@ -143,60 +120,11 @@ module _ (taken : Bool) (pair : ℕ × ℕ) (x : ℕ) (rest : List ℕ) (i : ℕ
   counted_step free = rw (drop-cons rest i 0 within, add-one)
       (met_after-counted taken pair x (get_or rest i 0) (drop (suc i) rest) free)
 
--- what stands first, by the length
-pub stands_first-short : (pair : ℕ × ℕ) (block : List ℕ) → length block < 2 → stands_first pair block ≡ false
-unfolding stands_first
-stands_first-short pair [] short = refl
-stands_first-short pair (x ∷ []) short = refl
-stands_first-short pair (x ∷ y ∷ rest) short = absurd (omega arith)
-
-pub stands_first-long : (pair : ℕ × ℕ) (block : List ℕ) → 2 ≤ length block →
-    stands_first pair block ≡ is_pair pair (get_or block 0 0) (get_or block 1 0)
-unfolding stands_first
-stands_first-long pair [] long = absurd (omega arith)
-stands_first-long pair (x ∷ []) long = absurd (omega arith)
-stands_first-long pair (x ∷ y ∷ rest) long = refl
-
--- one step of the pass
-pub block_after_pass-replacement_count : (pair : ℕ × ℕ) (symbol : ℕ) (block : List ℕ) → stands_first pair block ≡ true →
-    block_after_pass pair symbol block ≡ symbol ∷ block_after_pass pair symbol (drop 2 block)
-unfolding block_after_pass stands_first
-block_after_pass-replacement_count pair symbol [] stands = absurd (cc)
-block_after_pass-replacement_count pair symbol (x ∷ []) stands = absurd (cc)
-block_after_pass-replacement_count pair symbol (x ∷ y ∷ rest) stands = rw stands refl
-
 pub block_after_pass-passed : (pair : ℕ × ℕ) (symbol x : ℕ) (rest : List ℕ) → stands_first pair (x ∷ rest) ≡ false →
     block_after_pass pair symbol (x ∷ rest) ≡ x ∷ block_after_pass pair symbol rest
 unfolding block_after_pass stands_first
 block_after_pass-passed pair symbol x [] passed = refl
 block_after_pass-passed pair symbol x (y ∷ rest) passed = rw passed refl
-
--- a symbol that is written before what is still to be read
-pub put_before : (f : List ℕ → List ℕ) (items : List ℕ) (written read x : ℕ) → written < read → written < length items →
-    take (written + 1) (set items written x) ++ f (drop read (set items written x))
-    ≡ take written items ++ x ∷ f (drop read items)
-put_before f items written read x before below =
-    rw (take_more_set items written x below, drop-set-lt read items written x before, append_assoc) refl
-
--- the step of a pass that writes over what it has read
-module _ (pair : ℕ × ℕ) (symbol : ℕ) (items : List ℕ) (written read : ℕ) (behind : written ≤ read)
-    (within : read < length items) where
-  pub step_met : stands_first pair (drop read items) ≡ true →
-      take (written + 1) (set items written symbol) ++ block_after_pass pair symbol (drop (read + 2) (set items written symbol))
-      ≡ take written items ++ block_after_pass pair symbol (drop read items)
-  step_met stands = put_before (block_after_pass pair symbol) items written (read + 2) symbol (omega arith) (omega arith)
-      ∙ sym (ap (λ rest. take written items ++ rest)
-      (block_after_pass-replacement_count pair symbol (drop read items) stands
-      ∙ ap (λ rest. symbol ∷ block_after_pass pair symbol rest) (drop-drop 2 read items)))
-
-  pub step_passed : (x : ℕ) → x ≡ get_or items read 0 → stands_first pair (drop read items) ≡ false →
-      take (written + 1) (set items written x) ++ block_after_pass pair symbol (drop (read + 1) (set items written x))
-      ≡ take written items ++ block_after_pass pair symbol (drop read items)
-  step_passed x is passed = let here : drop read items ≡ x ∷ drop (read + 1) items =
-      rw (is, add-one) (drop-cons items read 0 within) in
-      put_before (block_after_pass pair symbol) items written (read + 1) x (omega arith) (omega arith)
-      ∙ sym (ap (λ rest. take written items ++ rest) (ap (block_after_pass pair symbol) here
-      ∙ block_after_pass-passed pair symbol x (drop (read + 1) items) (rw here at passed)))
 
 -- nothing is left
 pub block_after_pass-none : (pair : ℕ × ℕ) (symbol : ℕ) → block_after_pass pair symbol [] ≡ []
@@ -208,10 +136,7 @@ pub replacement_count-step : (pair : ℕ × ℕ) (x : ℕ) (rest : List ℕ) →
     (replacement_count pair rest ≤ replacement_count pair (x ∷ rest)) × (replacement_count pair (x ∷ rest) ≤ suc (replacement_count pair rest))
 unfolding replacement_count
 replacement_count-step pair x [] = (omega arith, omega arith)
-replacement_count-step pair x (y ∷ rest) = let later = replacement_count-step pair y rest in elim (cases_Bool (is_pair pair x y)) [
-  | inl is ↦ rw is (later.1, omega (arith, later.0))
-  | inr apart ↦ rw apart (omega arith, omega arith)
-]
+replacement_count-step pair x (y ∷ rest) = grind (arith, nat_tests, replacement_count-step pair y rest)
 
 -- what stands where the pair does
 pub stands_first-whole : (pair : ℕ × ℕ) (block : List ℕ) → stands_first pair block ≡ true →

@@ -1,13 +1,14 @@
 -- Rounds: each takes two symbols away, so that there are no more rounds than symbols.
-use Rattle.std.proofs.Common.{◌≡◌, ℕ, zero, suc, ◌+◌, ◌*◌, ◌≤◌, List, [], ◌∷◌, ◌++◌, length, map, Option, Some, None, refl, sym, ◌∙◌, arith}
+use Rattle.std.proofs.Common.{◌≡◌, ℕ, zero, suc, ◌+◌, ◌≤◌, List, [], ◌∷◌, ◌++◌, length, map, Option, Some, None, refl, sym, ◌∙◌, arith}
 use Rattle.std.specs.List.{sum_by}
 use Rattle.std.proofs.lemmas.List.{length-append}
 use Rattle.std.proofs.lemmas.List.Sums.{sum_by-cons}
+use Rattle.std.proofs.lemmas.Bool.Decides.{nat_tests}
 use Rattle.repair_grammar.specs.declared.grammar.Grammar.{Grammar}
 use Rattle.repair_grammar.specs.declared.key.Key.{Key}
 use Rattle.repair_grammar.specs.RePair.{replacement_count, block_after_pass, pair_count, key_of, keys_of, first_key, after_round, rounds, re_pair}
 use Rattle.repair_grammar.specs.Counts.{IsFirst, AllBelowTwo}
-use Rattle.repair_grammar.proofs.PassLemmas.{length-block_after_pass, replacement_count-le}
+use Rattle.repair_grammar.proofs.PassLemmas.{length-block_after_pass}
 use Rattle.repair_grammar.proofs.KeyLemmas.{key_taken, no_key, taken_is}
 use Rattle.repair_grammar.proofs.FirstLemmas.{none_counts_two}
 
@@ -16,25 +17,7 @@ pub symbols-block_after_pass : (pair : ℕ × ℕ) (symbol : ℕ) (blocks : List
     sum_by length (map (block_after_pass pair symbol) blocks) + sum_by (replacement_count pair) blocks ≡ sum_by length blocks
 symbols-block_after_pass pair symbol [] = refl
 symbols-block_after_pass pair symbol (block ∷ blocks) =
-    omega (
-      arith,
-      length-block_after_pass pair symbol block,
-      symbols-block_after_pass pair symbol blocks,
-      sum_by-cons length block blocks,
-      sum_by-cons (replacement_count pair) block blocks,
-      sum_by-cons length (block_after_pass pair symbol block) (map (block_after_pass pair symbol) blocks),
-    )
-
--- a pair's count is at most half of the symbols
-pub counts-le : (pair : ℕ × ℕ) (blocks : List (List ℕ)) → 2 * sum_by (replacement_count pair) blocks ≤ sum_by length blocks
-counts-le pair [] = omega arith
-counts-le pair (block ∷ blocks) = omega (
-  arith,
-  replacement_count-le pair block,
-  counts-le pair blocks,
-  sum_by-cons length block blocks,
-  sum_by-cons (replacement_count pair) block blocks,
-)
+    search (arith, symbols-block_after_pass pair symbol blocks, length-block_after_pass, sum_by-cons)
 
 -- a round takes two symbols away
 pub round_shorter : (alphabet : ℕ) (grammar : Grammar) (key : Key) → first_key (keys_of grammar.blocks) ≡ Some key →
@@ -130,10 +113,7 @@ rounds-end more alphabet grammar small = rounds-none more alphabet grammar (no_k
 -- the same counts have the same first pair
 pub first_same : (count other_count : ℕ × ℕ → ℕ) → ((pair : ℕ × ℕ) → count pair ≡ other_count pair) → (pair : ℕ × ℕ) →
     IsFirst count pair → IsFirst other_count pair
-first_same count other_count same pair first = record {
-  two = rw (sym (same pair)) first.two;
-  first = λ other. rw (sym (same other), sym (same pair)) (first.first other);
-}
+first_same count other_count same pair first = grind (arith, nat_tests)
 
 -- what is kept after a round
 pub record IsNext (alphabet : ℕ) (rules : List (ℕ × ℕ)) (blocks : List (List ℕ)) (more_rules : List (ℕ

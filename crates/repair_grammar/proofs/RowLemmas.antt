@@ -1,9 +1,10 @@
 -- Blocks in one row: a pair counts in the row what it counts in the blocks, and a pass leaves the row of what it leaves.
 use Rattle.std.proofs.Common.{◌≡◌, ◌≢◌, ℕ, zero, suc, ◌+◌, ◌<◌, ◌==◌, false, true, ltb, if◌then◌else◌, List, [], ◌∷◌, ◌++◌, length, drop, filter, map, refl, sym, ◌∙◌, ap, arith, inl, inr, append_assoc, zero-add}
 use Rattle.std.specs.List.{AllByRecursion, flat_map}
-use Rattle.std.proofs.lemmas.Bool.{cases_Bool, and_right, eqb-true, eq-eqb, le-ltb, lt-ltb, ne_eqb}
+use Rattle.std.proofs.lemmas.Bool.{cases_Bool, and_right, eqb-true, eq-eqb, lt-ltb, ne_eqb}
 use Rattle.std.proofs.lemmas.List.{get_or_past, get_or_push, length-append}
 use Rattle.std.proofs.lemmas.List.Sums.{sum_by-cons}
+use Rattle.std.proofs.lemmas.Bool.Decides.{nat_tests}
 use Rattle.repair_grammar.specs.RePair.{is_pair, replacement_count, block_after_pass, pair_count, AreBelow}
 use Rattle.repair_grammar.specs.Threads.{at, live, marked_row, HasEnds}
 use Rattle.repair_grammar.proofs.PassLemmas.{replacement_count-none, replacement_count-other, block_after_pass-none}
@@ -30,10 +31,8 @@ module _ (pair : ℕ × ℕ) (left : pair.0 < END) (right : pair.1 < END) where
   unfolding replacement_count
   replacement_count-block [] rest = omega (arith, replacement_count-mark rest)
   replacement_count-block (x ∷ []) rest = rw (not_right x) (omega (arith, replacement_count-mark rest))
-  replacement_count-block (x ∷ y ∷ block) rest = elim (cases_Bool (is_pair pair x y)) [
-    | inl is ↦ rw is (omega (arith, replacement_count-block block rest))
-    | inr other ↦ rw other (replacement_count-block (y ∷ block) rest)
-  ]
+  replacement_count-block (x ∷ y ∷ block) rest =
+      grind (arith, nat_tests, replacement_count-block block rest, replacement_count-block (y ∷ block) rest)
 
   -- the count over the row
   pub replacement_count-row : (blocks : List (List ℕ)) → replacement_count pair (marked_row blocks) ≡ pair_count blocks pair
@@ -58,10 +57,8 @@ module _ (pair : ℕ × ℕ) (left : pair.0 < END) (right : pair.1 < END) where
     unfolding block_after_pass
     block_after_pass-block [] rest = block_after_pass-mark rest
     block_after_pass-block (x ∷ []) rest = rw (not_right x) (ap (λ tail. x ∷ tail) (block_after_pass-mark rest))
-    block_after_pass-block (x ∷ y ∷ block) rest = elim (cases_Bool (is_pair pair x y)) [
-      | inl is ↦ rw is (ap (λ tail. symbol ∷ tail) (block_after_pass-block block rest))
-      | inr other ↦ rw other (ap (λ tail. x ∷ tail) (block_after_pass-block (y ∷ block) rest))
-    ]
+    block_after_pass-block (x ∷ y ∷ block) rest =
+        grind (arith, nat_tests, block_after_pass-block block rest, block_after_pass-block (y ∷ block) rest)
 
     -- the pass through the row
     pub block_after_pass-row : (blocks : List (List ℕ)) →
@@ -113,15 +110,8 @@ module _ (len x : ℕ) (xs : List ℕ) where
 lengths_after-live : (len : ℕ) (xs : List ℕ) → lengths_after len (live xs) ≡ lengths_after len xs
 unfolding lengths_after live
 lengths_after-live len [] = refl
-lengths_after-live len (x ∷ xs) = elim (cases_Bool (x == END)) [
-  | inl is ↦ let symbol : (x == GAP) ≡ false =
-      ne_eqb x GAP (λ same. omega (arith, same, eqb-true x END is)) in
-      rw (symbol, is) (ap (λ lengths. len ∷ lengths) (lengths_after-live 0 xs))
-  | inr apart ↦ elim (cases_Bool (x == GAP)) [
-    | inl gap ↦ rw (gap, apart) (lengths_after-live len xs)
-    | inr symbol ↦ rw (symbol, apart, symbol) (lengths_after-live (len + 1) xs)
-  ]
-]
+lengths_after-live len (x ∷ xs) =
+    grind (arith, nat_tests, lengths_after-live 0 xs, lengths_after-live len xs, lengths_after-live (len + 1) xs)
 
 -- a block, and all of them
 lengths_after-block : (len : ℕ) (block rest : List ℕ) → AllByRecursion (λ symbol. symbol < END) block →
@@ -129,9 +119,7 @@ lengths_after-block : (len : ℕ) (block rest : List ℕ) → AllByRecursion (λ
 lengths_after-block len [] rest below = lengths_after-end len END rest refl
     ∙ ap (λ n. n ∷ lengths_after 0 rest) (omega arith)
 lengths_after-block len (x ∷ block) rest below =
-    lengths_after-more len x (block ++ END ∷ rest) (λ same. omega (arith, same, below.0))
-    (λ same. omega (arith, same, below.0))
-    ∙ lengths_after-block (len + 1) block rest below.1 ∙ ap (λ n. n ∷ lengths_after 0 rest) (omega arith)
+    grind (arith, nat_tests, lengths_after-block (len + 1) block rest below.1, lengths_after-more)
 
 lengths_after-row : (blocks : List (List ℕ)) (tail : List ℕ) → AreBelow END blocks → marked_row blocks ≡ END ∷ tail →
     lengths_after 0 tail ≡ map length blocks
@@ -162,15 +150,7 @@ unmarked row = filter (λ symbol. ltb symbol END) row
 unmarked-live : (row : List ℕ) → unmarked (live row) ≡ unmarked row
 unfolding live
 unmarked-live [] = refl
-unmarked-live (x ∷ row) = elim (cases_Bool (x == GAP)) [
-  | inl gap ↦
-      let high : ltb x END ≡ false = le-ltb x END (omega (arith, eqb-true x GAP gap)) in
-      rw (gap, high) (unmarked-live row)
-  | inr symbol ↦ elim (cases_Bool (ltb x END)) [
-    | inl low ↦ rw (symbol, low) (ap (λ symbols. x ∷ symbols) (unmarked-live row))
-    | inr mark ↦ rw (symbol, mark) (unmarked-live row)
-  ]
-]
+unmarked-live (x ∷ row) = grind (arith, nat_tests, unmarked-live row)
 
 unmarked-block : (block rest : List ℕ) → AllByRecursion (λ symbol. symbol < END) block →
     unmarked (block ++ rest) ≡ block ++ unmarked rest
@@ -201,10 +181,7 @@ new_row : (c : ℕ) (blocks : List (List ℕ)) → c < END → AreBelow c blocks
     AllByRecursion (λ symbol. (c == symbol) ≡ false) (marked_row blocks)
 unfolding marked_row AreBelow
 new_row c [] fits below = (ne_eqb c END (λ same. omega (arith, same, fits)), tt)
-new_row c (block ∷ blocks) fits below = (
-  ne_eqb c END (λ same. omega (arith, same, fits)),
-  new_block c block (marked_row blocks) below.0 (new_row c blocks fits below.1),
-)
+new_row c (block ∷ blocks) fits below = grind (arith, nat_tests, new_row c blocks fits below.1, new_block)
 
 new_live : (c : ℕ) (symbols : List ℕ) → c < GAP →
     AllByRecursion (λ symbol. (c == symbol) ≡ false) (live symbols) → (k : ℕ) → (c == at symbols k) ≡ false

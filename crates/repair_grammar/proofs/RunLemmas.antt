@@ -1,6 +1,7 @@
 -- The run rule: counts of a list that is cut at a place.
-use Rattle.std.proofs.Common.{◌≡◌, ℕ, suc, ◌+◌, ◌==◌, Bool, true, false, cond, not, ◌&&◌, if◌then◌else◌, Some, None, List, [], ◌∷◌, ◌++◌, refl, sym, ◌∙◌, ap, subst, arith, inl, inr, append_assoc}
-use Rattle.std.proofs.lemmas.Bool.{cases_Bool, and_right, eqb-true, eqb-false, eq-eqb, ne_eqb, both_ways}
+use Rattle.std.proofs.Common.{◌≡◌, ℕ, suc, ◌+◌, ◌==◌, Bool, true, false, cond, not, ◌&&◌, if◌then◌else◌, Some, None, List, [], ◌∷◌, ◌++◌, refl, sym, ◌∙◌, ap, arith, inl, inr, append_assoc}
+use Rattle.std.proofs.lemmas.Bool.{cases_Bool, and_right, eqb-true, eqb-false, eq-eqb, ne_eqb}
+use Rattle.std.proofs.lemmas.Bool.Decides.{nat_tests}
 use Rattle.repair_grammar.specs.RePair.{is_pair, replacement_count}
 use Rattle.repair_grammar.specs.Kept.{times_of}
 use Rattle.repair_grammar.specs.Runs.{begins_odd, ends_odd, left_gone, right_gone, left_come}
@@ -60,28 +61,9 @@ met_run_then-append : (u : ℕ) (odd : Bool) (xs ys : List ℕ) → replacement_
 unfolding replacement_count begins_odd ends_odd
 met_run_then-append u true [] ys = omega (arith, replacement_count-run_cons u ys)
 met_run_then-append u false [] ys = omega arith
-met_run_then-append u true (x ∷ xs) ys = elim (cases_Bool (x == u)) [
-  | inl is ↦ rw (is, eq-eqb u u refl) (omega (arith, met_run_then-append u false xs ys))
-  | inr apart ↦ rw (
-    apart,
-    and_right (u == u) false refl,
-    replacement_count-other (u, u) x (xs ++ ys) apart,
-    replacement_count-other
-        (u, u) x xs apart,
-  )
-      (met_run_then-append u false xs ys)
-]
-met_run_then-append u false (x ∷ xs) ys = elim (cases_Bool (x == u)) [
-  | inl is ↦ let same : x ≡ u = eqb-true x u is in
-      rw is (omega (
-        arith,
-        met_run_then-append u true xs ys,
-        ap (λ z. replacement_count (u, u) (z ∷ xs ++ ys)) same,
-        ap (λ z. replacement_count (u, u) (z ∷ xs)) same,
-      ))
-  | inr apart ↦ rw (apart, replacement_count-other (u, u) x (xs ++ ys) apart, replacement_count-other (u, u) x xs apart)
-      (met_run_then-append u false xs ys)
-]
+met_run_then-append u true (x ∷ xs) ys = grind (arith, nat_tests, met_run_then-append u false xs ys, replacement_count-other)
+met_run_then-append u false (x ∷ xs) ys =
+    grind (arith, nat_tests, met_run_then-append u true xs ys, met_run_then-append u false xs ys, replacement_count-other)
 
 pub replacement_count-run_append : (u : ℕ) (xs ys : List ℕ) → replacement_count (u, u) (xs ++ ys)
     ≡ replacement_count (u, u) xs + cond (ends_odd u false xs && begins_odd u ys) 1 0 + replacement_count (u, u) ys
@@ -91,14 +73,7 @@ replacement_count-run_append u xs ys = met_run_then-append u false xs ys
 met_two : (other : ℕ × ℕ) (x y : ℕ) (ys : List ℕ) → is_pair other y y ≡ false →
     replacement_count other (x ∷ y ∷ ys) ≡ cond (is_pair other x y) 1 0 + replacement_count other (y ∷ ys)
 unfolding replacement_count
-met_two other x y ys free = elim (cases_Bool (is_pair other x y)) [
-  | inl is ↦ let left : (y == other.0) ≡ false = elim (cases_Bool (y == other.0)) [
-    | inl same ↦ absurd (both_ways (is_pair other y y) free
-        (rw (same, eq-eqb y other.1 (right_of_pair other x y is)) refl))
-    | inr apart ↦ apart
-  ] in rw (is, replacement_count-other other y ys left) (omega arith)
-  | inr apart ↦ rw apart (omega arith)
-]
+met_two other x y ys free = grind (arith, nat_tests, free, right_of_pair, replacement_count-other)
 
 pub replacement_count-cut : (other : ℕ × ℕ) (xs : List ℕ) (y : ℕ) (ys : List ℕ) → is_pair other y y ≡ false →
     replacement_count other (xs ++ y ∷ ys) ≡ replacement_count other (xs ++ y ∷ []) + replacement_count other (y ∷ ys)
@@ -107,18 +82,13 @@ replacement_count-cut other [] y ys free = omega arith
 replacement_count-cut other (x ∷ []) y ys free =
     let none : replacement_count other (y ∷ []) ≡ 0 = refl in omega
     (arith, met_two other x y ys free, met_two other x y [] free, none)
-replacement_count-cut other (x ∷ z ∷ xs) y ys free = elim (cases_Bool (is_pair other x z)) [
-  | inl is ↦ rw is (omega (arith, replacement_count-cut other xs y ys free))
-  | inr apart ↦ rw apart (replacement_count-cut other (z ∷ xs) y ys free)
-]
+replacement_count-cut other (x ∷ z ∷ xs) y ys free =
+    grind (arith, nat_tests, replacement_count-cut other xs y ys free, replacement_count-cut other (z ∷ xs) y ys free, free)
 
 -- the symbol in front: its run is longer by one
 pub replacement_count-run_front : (u x : ℕ) (ys : List ℕ) →
     replacement_count (u, u) (x ∷ ys) ≡ cond ((x == u) && begins_odd u ys) 1 0 + replacement_count (u, u) ys
-replacement_count-run_front u x ys = elim (cases_Bool (x == u)) [
-  | inl is ↦ rw is (ap (λ z. replacement_count (u, u) (z ∷ ys)) (eqb-true x u is) ∙ replacement_count-run_cons u ys)
-  | inr apart ↦ rw apart (omega (arith, replacement_count-other (u, u) x ys apart))
-]
+replacement_count-run_front u x ys = grind (arith, nat_tests, replacement_count-run_cons, replacement_count-other)
 
 -- the symbol at the end of a run
 pub ends_odd-last : (u : ℕ) (odd : Bool) (xs : List ℕ) (x : ℕ) →
@@ -182,10 +152,7 @@ module _ (front : List ℕ) (l a b c r : ℕ) (rest : List ℕ) (begins : (a == 
   -- two different symbols: each two neighbours count by themselves
   module _ (other : ℕ × ℕ) (apart : (other.0 == other.1) ≡ false) where
     free : (y : ℕ) → is_pair other y y ≡ false
-    free y = elim (cases_Bool (is_pair other y y)) [
-      | inl is ↦ absurd (eqb-false other.0 other.1 apart (sym (left_of_pair other y y is) ∙ right_of_pair other y y is))
-      | inr not ↦ not
-    ]
+    free y = grind (arith, nat_tests, left_of_pair, right_of_pair)
 
     single : (x : ℕ) → times_of (Some (x, x)) other ≡ 0
     unfolding times_of
@@ -197,57 +164,23 @@ module _ (front : List ℕ) (l a b c r : ℕ) (rest : List ℕ) (begins : (a == 
 
     left_gone-is : times_of (left_gone front l a b) other ≡ cond (is_pair other l a) 1 0
     unfolding left_gone times_of
-    left_gone-is = elim (cases_Bool (l == a)) [
-      | inl is ↦ let same : is_pair other l a ≡ false = rw (eqb-true l a is) (free a) in
-          rw (is, same) (elim (cases_Bool (not (a == b) && ends a)) [
-            | inl odd ↦ rw odd (single a)
-            | inr even ↦ rw even refl
-          ])
-      | inr differ ↦ rw differ refl
-    ]
+    left_gone-is = grind (arith, nat_tests, free, single)
 
     right_gone-is : times_of (right_gone a b r rest) other ≡ cond (is_pair other b r) 1 0
     unfolding right_gone times_of
-    right_gone-is = elim (cases_Bool (r == b)) [
-      | inl is ↦ let same : is_pair other b r ≡ false = rw (eqb-true r b is) (free b) in
-          rw (is, same) (elim (cases_Bool (not (a == b) && begins_odd b (r ∷ rest))) [
-            | inl odd ↦ rw odd (single b)
-            | inr even ↦ rw even refl
-          ])
-      | inr differ ↦ rw differ refl
-    ]
+    right_gone-is = grind (arith, nat_tests, free, single)
 
     left_come-is : times_of (left_come front l c) other ≡ cond (is_pair other l c) 1 0
     unfolding left_come times_of
-    left_come-is = elim (cases_Bool (l == c)) [
-      | inl is ↦ let same : is_pair other l c ≡ false = rw (eqb-true l c is) (free c) in
-          rw (is, same) (elim (cases_Bool (ends c)) [
-            | inl odd ↦ rw odd (single c)
-            | inr even ↦ rw even refl
-          ])
-      | inr differ ↦ rw differ refl
-    ]
+    left_come-is = grind (arith, nat_tests, free, single)
 
     some : (x y : ℕ) → times_of (Some (x, y)) other ≡ cond (is_pair other x y) 1 0
     unfolding times_of
     some x y = refl
 
     changed-apart : IsChanged other
-    changed-apart = omega (
-      arith,
-      replacement_count-cut other front l (a ∷ b ∷ r ∷ rest) (free l),
-      replacement_count-cut other front l (c ∷ r ∷ rest) (free l),
-      met_two other l a (b ∷ r ∷ rest) (free a),
-      met_two other a b (r ∷ rest) (free b),
-      met_two other b r rest (free r),
-      met_two other l c (r ∷ rest) (free c),
-      met_two other c r rest (free r),
-      left_gone-is,
-      right_gone-is,
-      left_come-is,
-      some a b,
-      some c r,
-    )
+    changed-apart =
+        grind (arith, nat_tests, replacement_count-cut, free, met_two, left_gone-is, right_gone-is, left_come-is, some)
 
   -- two alike
   module _ (u : ℕ) where
@@ -266,17 +199,11 @@ module _ (front : List ℕ) (l a b c r : ℕ) (rest : List ℕ) (begins : (a == 
 
     -- where x is u, y is x if it is u
     tests : (x y : ℕ) → (x == u) ≡ true → (x == y) ≡ (y == u)
-    tests x y is = elim (cases_Bool (y == u)) [
-      | inl same ↦ rw (same, eq-eqb x y (eqb-true x u is ∙ sym (eqb-true y u same))) refl
-      | inr differ ↦ rw (differ, ne_eqb x y (λ e. eqb-false y u differ (sym e ∙ eqb-true x u is))) refl
-    ]
+    tests x y is = grind (arith, nat_tests)
 
     -- two that differ are not both u
     not_both : (x y : ℕ) → (x == y) ≡ false → ((x == u) && (y == u)) ≡ false
-    not_both x y differ = elim (cases_Bool (x == u)) [
-      | inl is ↦ rw (is, sym (tests x y is)) differ
-      | inr none ↦ rw none refl
-    ]
+    not_both x y differ = grind (arith, nat_tests)
 
     -- the symbol in front of a run is no part of it, and neither is the one after it
     other_than : (x y : ℕ) → (x == u) ≡ true → (y == x) ≡ false → (y == u) ≡ false
@@ -291,66 +218,23 @@ module _ (front : List ℕ) (l a b c r : ℕ) (rest : List ℕ) (begins : (a == 
     left_gone-twin : times_of (left_gone front l a b) (u, u)
         ≡ cond ((a == u) && (not (b == u) && ends u)) 1 0
     unfolding left_gone
-    left_gone-twin = elim (cases_Bool (l == a)) [
-      | inl is ↦ rw is (one_twin a (not (a == b) && ends a) ∙ elim (cases_Bool (a == u)) [
-        | inl own ↦ rw (own, tests a b own, ap ends (eqb-true a u own)) refl
-        | inr none ↦ rw none refl
-      ])
-      | inr differ ↦ rw differ (alike l a ∙ elim (cases_Bool (a == u)) [
-        | inl own ↦ rw (own, even_end a own differ, and_right (not (b == u)) false refl, other_than a l own differ) refl
-        | inr none ↦ rw (none, and_right (l == u) false refl) refl
-      ])
-    ]
+    left_gone-twin = grind (arith, nat_tests, one_twin, alike, even_end, other_than)
 
     right_gone-twin : times_of (right_gone a b r rest) (u, u)
         ≡ cond ((b == u) && (not (a == u) && begins_odd u (r ∷ rest))) 1 0
     unfolding right_gone
-    right_gone-twin = elim (cases_Bool (r == b)) [
-      | inl is ↦ rw is (one_twin b (not (a == b) && begins_odd b (r ∷ rest)) ∙ elim (cases_Bool (b == u)) [
-        | inl own ↦ let test : (a == b) ≡ (a == u) = ap (λ x. a == x) (eqb-true b u own) in
-            rw (own, test, ap (λ x. begins_odd x (r ∷ rest)) (eqb-true b u own)) refl
-        | inr none ↦ rw none refl
-      ])
-      | inr differ ↦ rw differ (alike b r ∙ elim (cases_Bool (b == u)) [
-        | inl own ↦ rw (
-          own,
-          other_than b r own differ,
-          even_begin b own differ,
-          and_right
-              (not (a == u)) false refl,
-        ) refl
-        | inr none ↦ rw none refl
-      ])
-    ]
+    right_gone-twin = grind (arith, nat_tests, one_twin, alike, other_than, even_begin)
 
     left_come-twin : times_of (left_come front l c) (u, u) ≡ cond ((c == u) && ends u) 1 0
     unfolding left_come
-    left_come-twin = elim (cases_Bool (l == c)) [
-      | inl is ↦ rw is (one_twin c (ends c) ∙ elim (cases_Bool (c == u)) [
-        | inl own ↦ rw (own, ap ends (eqb-true c u own)) refl
-        | inr none ↦ rw none refl
-      ])
-      | inr differ ↦ rw differ (alike l c ∙ elim (cases_Bool (c == u)) [
-        | inl own ↦ rw (own, even_end c own differ, other_than c l own differ) refl
-        | inr none ↦ rw (none, and_right (l == u) false refl) refl
-      ])
-    ]
+    left_come-twin = grind (arith, nat_tests, one_twin, alike, even_end, other_than)
 
     -- by tests alone
     both_odd : ((a == u) && ((b == u) && ends u)) ≡ false
-    both_odd = elim (cases_Bool (a == u)) [
-      | inl own ↦ elim (cases_Bool (b == u)) [
-        | inl other ↦ rw (own, other) (even_end a own (begins (tests a b own ∙ other)))
-        | inr none ↦ rw (own, none) refl
-      ]
-      | inr none ↦ rw none refl
-    ]
+    both_odd = grind (arith, nat_tests, even_end)
 
     new_even : ((c == u) && begins_odd u (r ∷ rest)) ≡ false
-    new_even = elim (cases_Bool (c == u)) [
-      | inl own ↦ rw own (even_begin c own (ne_eqb r c (λ same. eqb-false c r new_r (sym same))))
-      | inr none ↦ rw none refl
-    ]
+    new_even = grind (arith, nat_tests, even_begin)
 
     turned : (x y : ℕ) → (x == y) ≡ false → (y == x) ≡ false
     turned x y differ = ne_eqb y x (λ same. eqb-false x y differ (sym same))
@@ -387,8 +271,4 @@ module _ (front : List ℕ) (l a b c r : ℕ) (rest : List ℕ) (begins : (a == 
 
   -- the run rule: what a replacement at one place changes, for every pair
   pub changed : (other : ℕ × ℕ) → IsChanged other
-  changed other = elim (cases_Bool (other.0 == other.1)) [
-    | inl is ↦ let same : (other.0, other.0) ≡ other = λ i. (other.0, eqb-true other.0 other.1 is i) in
-        subst IsChanged same (changed-twin other.0)
-    | inr apart ↦ changed-apart other apart
-  ]
+  changed other = grind (arith, nat_tests, changed-twin, changed-apart)

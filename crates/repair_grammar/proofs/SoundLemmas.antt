@@ -6,6 +6,7 @@ use Rattle.std.proofs.lemmas.List.{length-append, length-map}
 use Rattle.std.proofs.lemmas.List.Folds.{list_any-append}
 use Rattle.std.proofs.Math.ListN.{get_or-append, get_or-map}
 use Rattle.std.proofs.Math.Seq.{get_or-append_seam}
+use Rattle.std.proofs.lemmas.Bool.Decides.{nat_tests}
 use Rattle.repair_grammar.specs.declared.grammar.Grammar.{Grammar}
 use Rattle.repair_grammar.specs.declared.key.Key.{Key}
 use Rattle.repair_grammar.specs.RePair.{replacement_count, block_after_pass, pair_count, keys_of, first_key, after_round, rounds, re_pair, AreBelow}
@@ -113,15 +114,7 @@ round_sound alphabet blocks grammar key taken sound =
 -- the blocks themselves, with no rule
 pub start_sound : (alphabet : ℕ) (blocks : List (List ℕ)) → AreBelow alphabet blocks →
     IsGrammarOf alphabet blocks (record { rules = []; blocks = blocks })
-start_sound alphabet blocks below = record {
-  expands = expanded-none alphabet blocks below;
-  below = rw add-zero below;
-  parts = λ rule within. absurd (omega arith);
-  used = λ rule within. absurd (omega arith);
-  few = omega arith;
-  same = refl;
-  shorter = λ block. omega arith;
-}
+start_sound alphabet blocks below = grind (arith, nat_tests, expanded-none, add-zero)
 
 pub re_pair-sound : (alphabet : ℕ) (blocks : List (List ℕ)) → AreBelow alphabet blocks →
     IsGrammarOf alphabet blocks (re_pair alphabet blocks)

@@ -4,6 +4,7 @@ use Rattle.std.proofs.lemmas.Bool.{cases_Bool, cases_lt, eqb-true, eqb-false, ne
 use Rattle.std.proofs.lemmas.List.{length-set, get_or-set_same, get_or-set_other, take-append-drop, drop-set-lt, take-set-le, get_or_default, take_more, append-nil}
 use Rattle.std.proofs.lemmas.List.Elements.{filter-append}
 use Rattle.std.proofs.Math.Seq.{drop-cons}
+use Rattle.std.proofs.lemmas.Bool.Decides.{nat_tests}
 use Rattle.repair_grammar.specs.Runs.{begins_odd, ends_odd}
 use Rattle.repair_grammar.specs.Threads.{at, live, turned_by, AreNeighbours, AreThreads, HasEnds, IsAround}
 use Rattle.repair_grammar.proofs.RunLemmas.{begins_odd-front, ends_odd-last}
@@ -68,22 +69,10 @@ live-neighbours symbols p q near =
 
 -- a place has one neighbour on each side
 pub same_left : (symbols : List ℕ) (i j m : ℕ) → AreNeighbours symbols i m → AreNeighbours symbols j m → i ≡ j
-same_left symbols i j m one other = elim (cases_lt i j) [
-  | inl less ↦ absurd (omega (arith, one.gaps j less other.before, other.left_stands))
-  | inr not_less ↦ elim (cases_lt j i) [
-    | inl more ↦ absurd (omega (arith, other.gaps i more one.before, one.left_stands))
-    | inr same ↦ omega (arith, not_less, same)
-  ]
-]
+same_left symbols i j m one other = grind (arith, nat_tests)
 
 pub same_right : (symbols : List ℕ) (m i j : ℕ) → AreNeighbours symbols m i → AreNeighbours symbols m j → i ≡ j
-same_right symbols m i j one other = elim (cases_lt i j) [
-  | inl less ↦ absurd (omega (arith, other.gaps i one.before less, one.right_stands))
-  | inr not_less ↦ elim (cases_lt j i) [
-    | inl more ↦ absurd (omega (arith, one.gaps j other.before more, other.right_stands))
-    | inr same ↦ omega (arith, not_less, same)
-  ]
-]
+same_right symbols m i j one other = grind (arith, nat_tests)
 
 -- one place more on the left
 pub live-last_here : (symbols : List ℕ) (p : ℕ) → p < length symbols → (at symbols p == GAP) ≡ false →
@@ -143,50 +132,11 @@ module _ (symbols : List ℕ) (p m r c : ℕ) (near : AreNeighbours symbols p m)
 
   -- neighbours but for the place that goes
   pub kept : (i j : ℕ) → i ≢ m → j ≢ m → AreNeighbours symbols i j → AreNeighbours after i j
-  kept i j not_i not_j are = record {
-    before = are.before;
-    within = rw after-length are.within;
-    left_stands = elim (same_or i p) [
-      | inl same ↦ rw same (omega (arith, after-place))
-      | inr other ↦ omega (arith, after-other i other not_i, are.left_stands)
-    ];
-    right_stands = elim (same_or j p) [
-      | inl same ↦ rw same (omega (arith, after-place))
-      | inr other ↦ omega (arith, after-other j other not_j, are.right_stands)
-    ];
-    gaps = λ k from to. elim (same_or k m) [
-      | inl same ↦ rw same after-gone
-      | inr not_m ↦ elim (same_or k p) [
-        | inl same ↦ absurd (let none : at symbols p ≡ GAP = rw (sym same) (are.gaps k from to) in
-            omega (arith, none, near.left_stands))
-        | inr not_p ↦ after-other k not_p not_m ∙ are.gaps k from to
-      ]
-    ];
-  }
+  kept i j not_i not_j are = grind (arith, nat_tests, after-length, same_or, after-place, after-other, after-gone)
 
   -- and the two around it
   pub joined : AreNeighbours after p r
-  joined = record {
-    before = omega (arith, near.before, next_near.before);
-    within = rw after-length next_near.within;
-    left_stands = omega (arith, after-place);
-    right_stands = omega (
-      arith,
-      after-other r (λ same. omega (arith, near.before, next_near.before, same))
-          (λ same. omega (arith, next_near.before, same)),
-      next_near.right_stands,
-    );
-    gaps = λ k from to. elim (same_or k m) [
-      | inl same ↦ rw same after-gone
-      | inr not_m ↦ after-other k (λ same. omega (arith, from, same)) not_m ∙ elim (cases_lt k m) [
-        | inl less ↦ near.gaps k from less
-        | inr more ↦ next_near.gaps k (elim (cases_lt m k) [
-          | inl greater ↦ greater
-          | inr same ↦ absurd (not_m (omega (arith, more, same)))
-        ]) to
-      ]
-    ];
-  }
+  joined = grind (arith, nat_tests, after-length, after-place, after-other, same_or, after-gone)
 
   abbrev left_part : List ℕ
   left_part = live (take p symbols)
@@ -235,13 +185,7 @@ module _ (symbols : List ℕ) (p m r c : ℕ) (near : AreNeighbours symbols p m)
   module _ (next previous : List ℕ) (threads : AreThreads symbols next previous) (is_next : get_or next p 0 ≡ m)
       (is_right : get_or next m 0 ≡ r) (more : m + 1 < length symbols) where
     pub stood : (k : ℕ) → at after k < GAP → (k ≢ m) × (at symbols k < GAP)
-    stood k stands = elim (same_or k m) [
-      | inl same ↦ absurd (let none : at after k ≡ GAP = rw same after-gone in omega (arith, none, stands))
-      | inr not_m ↦ elim (same_or k p) [
-        | inl same ↦ (not_m, rw same near.left_stands)
-        | inr not_p ↦ (not_m, omega (arith, after-other k not_p not_m, stands))
-      ]
-    ]
+    stood k stands = grind (arith, nat_tests, same_or, after-gone, after-other)
 
     pub threads-joined : AreThreads after (set next p r) (set previous r p)
     threads-joined = record {
@@ -308,12 +252,7 @@ begins_odd-at symbols u p q near = ap (begins_odd u) (live-neighbours symbols p 
 pub run_back : (symbols : List ℕ) (u p q : ℕ) (odd whole : Bool) → AreNeighbours symbols p q → at symbols q ≡ u →
     whole ≡ turned_by odd (ends_odd u false (live (take (q + 1) symbols))) →
     whole ≡ turned_by (not odd) (ends_odd u false (live (take (p + 1) symbols)))
-run_back symbols u p q odd whole near is left =
-    left ∙ ap (turned_by odd) (ends_odd-at symbols u q near.within near.right_stands
-    ∙ rw (eq-eqb (at symbols q) u is) refl)
-    ∙ turned_not odd (ends_odd u false (live (take q symbols)))
-    ∙ ap (turned_by (not odd)) (ends_odd-place symbols u p q near
-    ∙ sym (ends_odd-at symbols u p (omega (arith, near.before, near.within)) near.left_stands))
+run_back symbols u p q odd whole near is left = grind (arith, nat_tests, ends_odd-at, turned_not, ends_odd-place)
 
 pub run_back_start : (symbols : List ℕ) (u p q : ℕ) → AreNeighbours symbols p q →
     ends_odd u false (live (take q symbols)) ≡ ends_odd u false (live (take (p + 1) symbols))
@@ -322,10 +261,7 @@ run_back_start symbols u p q near = ends_odd-place symbols u p q near
 
 pub run_back_end : (symbols : List ℕ) (u p : ℕ) (odd whole : Bool) → p < length symbols → at symbols p < GAP →
     at symbols p ≢ u → whole ≡ turned_by odd (ends_odd u false (live (take (p + 1) symbols))) → odd ≡ whole
-run_back_end symbols u p odd whole within stands other left =
-    let even : ends_odd u false (live (take (p + 1) symbols)) ≡ false =
-    ends_odd-at symbols u p within stands ∙ and_false _ _ (ne_eqb (at symbols p) u other) in
-    sym (left ∙ ap (turned_by odd) even ∙ turned_false odd)
+run_back_end symbols u p odd whole within stands other left = grind (arith, nat_tests, ends_odd-at, and_false, turned_false)
 
 -- one symbol further on
 pub run_on : (symbols : List ℕ) (u p q : ℕ) (odd whole : Bool) → AreNeighbours symbols p q → at symbols p ≡ u →
@@ -338,19 +274,12 @@ run_on symbols u p q odd whole near is left =
 pub run_on_end : (symbols : List ℕ) (u p : ℕ) (odd whole : Bool) → p < length symbols → at symbols p < GAP →
     at symbols p ≢ u → whole ≡ turned_by odd (begins_odd u (live (drop p symbols))) → odd ≡ whole
 run_on_end symbols u p odd whole within stands other left =
-    let even : begins_odd u (live (drop p symbols)) ≡ false =
-    ap (begins_odd u) (live-stands symbols p within stands)
-    ∙ begins_odd-front u (at symbols p) (live (drop (p + 1) symbols))
-    ∙ and_false _ _ (ne_eqb (at symbols p) u other) in
-    sym (left ∙ ap (turned_by odd) even ∙ turned_false odd)
+    grind (arith, nat_tests, live-stands, begins_odd-front, and_false, turned_false)
 
 -- the neighbours that the code reads
 pub neighbour_back : (symbols next previous : List ℕ) (p q : ℕ) → AreThreads symbols next previous → 0 < p →
     p < length symbols → at symbols p < GAP → q ≡ get_or previous p q → AreNeighbours symbols q p
-neighbour_back symbols next previous p q threads some within stands is =
-    let same : get_or previous p 0 ≡ q =
-    get_or_default previous p 0 q (omega (arith, within, threads.previouses)) ∙ sym is in
-    rw same at (threads.back p some within stands)
+neighbour_back symbols next previous p q threads some within stands is = grind (arith, nat_tests, get_or_default)
 
 pub neighbour_on : (symbols next previous : List ℕ) (p q : ℕ) → AreThreads symbols next previous →
     p + 1 < length symbols → at symbols p < GAP → q ≡ get_or next p q → AreNeighbours symbols p q
@@ -360,21 +289,11 @@ neighbour_on symbols next previous p q threads inside stands is =
 
 -- a symbol stands at neither end
 pub not_first : (symbols : List ℕ) (p : ℕ) → HasEnds symbols → at symbols p < END → 0 < p
-not_first symbols p ends plain = elim (same_or p 0) [
-  | inl zero_is ↦ absurd (let end : at symbols p ≡ END = ap (at symbols) zero_is ∙ ends.first in
-      omega (arith, plain, end))
-  | inr some ↦ elim (cases_lt 0 p) [ inl more ↦ more | inr none ↦ absurd (some (omega (arith, none))) ]
-]
+not_first symbols p ends plain = grind (arith, nat_tests, same_or)
 
 pub not_last : (symbols : List ℕ) (p : ℕ) → HasEnds symbols → p < length symbols → at symbols p < END →
     p + 1 < length symbols
-not_last symbols p ends within plain = elim (same_or (p + 1) (length symbols)) [
-  | inl end ↦ absurd (omega (arith, plain, ends.last p end))
-  | inr other ↦ elim (cases_lt (p + 1) (length symbols)) [
-    | inl inside ↦ inside
-    | inr past ↦ absurd (other (omega (arith, past, within)))
-  ]
-]
+not_last symbols p ends within plain = grind (arith, nat_tests, same_or)
 
 -- the symbol that was read
 pub read_is : (symbols : List ℕ) (p x : ℕ) → p < length symbols → x ≡ get_or symbols p x → at symbols p ≡ x
@@ -395,14 +314,8 @@ threads_around symbols next previous p l m r c before beyond threads around fits
 
 pub gone_is : (symbols next previous : List ℕ) (p l m r before beyond : ℕ) → AreThreads symbols next previous →
     IsAround symbols p l m r before beyond → get_or next p 0 ≡ m
-gone_is symbols next previous p l m r before beyond threads around =
-    let near : AreNeighbours symbols p m = around.near in
-    same_right symbols p (get_or next p 0) m
-    (threads.on p (omega (arith, near.before, near.within)) near.left_stands) near
+gone_is symbols next previous p l m r before beyond threads around = grind (arith, nat_tests, same_right)
 
 pub left_is : (symbols next previous : List ℕ) (p l m r before beyond : ℕ) → AreThreads symbols next previous →
     IsAround symbols p l m r before beyond → get_or previous p 0 ≡ l
-left_is symbols next previous p l m r before beyond threads around =
-    let near : AreNeighbours symbols l p = around.left_near in
-    same_left symbols (get_or previous p 0) l p
-    (threads.back p (omega (arith, near.before)) near.within near.right_stands) near
+left_is symbols next previous p l m r before beyond threads around = grind (arith, nat_tests, same_left)

@@ -1,11 +1,12 @@
 -- Each rule of a grammar is used: what holds of the symbols of its blocks, and passes from a rule to its parts, holds
 -- of all rules.
 use Rattle.std.proofs.Common.{◌≡◌, ℕ, zero, suc, ◌+◌, ◌<◌, ◌≤◌, ◌==◌, ◌||◌, true, List, length, get_or}
-use Rattle.std.proofs.Common.{ap, subst, ◌∙◌, arith, inl, inr}
+use Rattle.std.proofs.Common.{subst, arith, inl, inr}
 use Rattle.std.specs.List.{Contains, list_any}
 use Rattle.std.proofs.lemmas.Bool.{eqb-true, or_cases}
 use Rattle.std.proofs.lemmas.List.{get_or_default}
 use Rattle.std.proofs.lemmas.List.Folds.{Any-from_list_any}
+use Rattle.std.proofs.lemmas.Bool.Decides.{nat_tests}
 use Rattle.repair_grammar.specs.declared.grammar.Grammar.{Grammar}
 use Rattle.repair_grammar.specs.GrammarOf.{IsGrammarOf, is_used}
 
@@ -26,24 +27,7 @@ module _ (alphabet : ℕ) (blocks : List (List ℕ)) (grammar : Grammar) (is : I
   -- a symbol that is a part of a rule of which it holds
   part : (symbol : ℕ) → ((rule : ℕ) → rule < length grammar.rules → symbol < alphabet + rule → P (alphabet + rule)) →
       list_any (λ pair. pair.0 == symbol || pair.1 == symbol) grammar.rules ≡ true → P symbol
-  part symbol later stands =
-      let any = Any-from_list_any (λ (pair : ℕ × ℕ). pair.0 == symbol || pair.1 == symbol) grammar.rules stands in
-      let rule : ℕ = any.0 in
-      let pair : ℕ × ℕ = any.1 in
-      let within : rule < length grammar.rules = any.2 in
-      let at : get_or grammar.rules rule (0, 0) ≡ pair =
-      get_or_default grammar.rules rule (0, 0) pair within ∙ any.3 in
-      let left_at : (get_or grammar.rules rule (0, 0)).0 ≡ pair.0 = ap (λ (p : ℕ × ℕ). p.0) at in
-      let right_at : (get_or grammar.rules rule (0, 0)).1 ≡ pair.1 = ap (λ (p : ℕ × ℕ). p.1) at in
-      let below = is.parts rule within in
-      elim (or_cases (pair.0 == symbol) (pair.1 == symbol) any.4) [
-        | inl left ↦
-            let same = left_at ∙ eqb-true pair.0 symbol left in
-            subst P same (parts rule within (later rule within (omega (arith, same, below.0)))).0
-        | inr right ↦
-            let same = right_at ∙ eqb-true pair.1 symbol right in
-            subst P same (parts rule within (later rule within (omega (arith, same, below.1)))).1
-      ]
+  part symbol later stands = grind (arith, nat_tests, Any-from_list_any, get_or_default)
 
   -- from the last rule down
   used_from : (left rule : ℕ) → rule < length grammar.rules → length grammar.rules ≤ rule + left → P (alphabet + rule)
