@@ -1,5 +1,5 @@
 -- The first cause for which rows that are gridded already have no chart.
-use Rattle.std.proofs.Common.{◌≡◌, ℕ, ◌<◌, ◌≤◌, true, false, List, [], ◌∷◌, All, None, Some, length, get_or, refl, ap, ◌∙◌, arith}
+use Rattle.std.proofs.Common.{◌≡◌, ℕ, ◌<◌, ◌≤◌, true, false, List, [], ◌∷◌, All, None, Some, length, refl, ap, ◌∙◌, arith}
 use Rattle.std.specs.Prelude.{ℤ, unsigned_abs}
 use Rattle.std.specs.Option.{option_map}
 use Rattle.std.proofs.lemmas.Bool.Decides.{nat_tests}
@@ -9,7 +9,7 @@ use Rattle.track_types.specs.Limits.{limit_of}
 use Rattle.track_types.specs.Near.{IsNear, IsRowInRange}
 use Rattle.track_types.specs.declared.limit.LimitKind.TheVariants.{Base}
 use Rattle.track_types.specs.declared.row.Row.{Row}
-use Rattle.gridding.specs.GridLimit.{base_of, chart_fault, chart_limit, distance_of, first_past, IsGridFaultFor, IsRefusal, is_past, limit_fault}
+use Rattle.gridding.specs.GridLimit.{base_of, chart_fault, chart_limit, first_past, IsGridFaultFor, IsRefusal, is_past, limit_fault}
 use Rattle.gridding.specs.declared.fault.GridFault.{GridFault}
 use Rattle.gridding.specs.declared.fault.GridFault.TheVariants.{Empty, Limit, Memory}
 
@@ -59,12 +59,4 @@ IsNear-within z within = record { low = omega (arith, ints, within); high = omeg
 -- where no cell is too far, rows at instants in range are in range
 pub IsRowInRange-near : (rows : List Row) → is_past (Base, base_of rows) ≡ false → All (λ row. IsNear row.instant) rows
     → All IsRowInRange rows
-IsRowInRange-near rows near instants = λ k d below.
-    let row : Row = get_or rows k d in
-    let base : base_of rows ≤ limit_of Base = grind (arith, nat_tests, near) in
-    let each : distance_of row ≤ base_of rows = fold_max-each distance_of rows 0 k d below in
-    record {
-      instant = instants k d below;
-      x = IsNear-within row.cell.x (omega (arith, each, base));
-      y = IsNear-within row.cell.y (omega (arith, each, base));
-    }
+IsRowInRange-near rows near instants = grind (arith, nat_tests, fold_max-each, IsNear-within)

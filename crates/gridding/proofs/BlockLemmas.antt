@@ -1,8 +1,7 @@
 -- Rows in blocks: what one place more in an object's last block, and one block more at the end, make of the rows of each
 -- object and of where its last block stands.
 use Rattle.std.proofs.Common.{◌≡◌, ◌≢◌, ℕ, zero, suc, ◌+◌, ◌<◌, ◌≤◌, List, [], ◌∷◌, ◌++◌, Option, Some, None}
-use Rattle.std.proofs.Common.{drop, filter, get_or, length, map, set, take}
-use Rattle.std.proofs.Common.{refl, sym, ap, ◌∙◌, subst, arith, inl, inr}
+use Rattle.std.proofs.Common.{drop, filter, get_or, length, map, set, take, refl, sym, ap, ◌∙◌, subst, arith, inl, inr}
 use Rattle.std.specs.Prelude.{◌==◌, ◌⊎◌, Bool, true, false, Result, Ok, Err, IfOk, nat_eq, slice_get}
 use Rattle.std.specs.declared.alloc.AllocError.{AllocError}
 use Rattle.std.specs.HashMap.{Updates, get}
@@ -19,9 +18,8 @@ use Rattle.std.proofs.lemmas.Slice.Zip.{firsts-zip, get_or-zip, length-zip}
 use Rattle.list_laws.proofs.SliceLemmas.{slice_get-append_add, slice_get-append_left}
 use Rattle.list_laws.proofs.ZipLemmas.{zip-append, zip-set}
 use Rattle.track_types.specs.declared.row.Row.{Row}
-use Rattle.gridding.specs.Blocks.{IsLastOf, ObjectRun, filled_of, rows_of_run, rows_of_runs}
+use Rattle.gridding.specs.Blocks.{IsLastOf, ObjectRun, filled_of, rows_of_runs, rows_with, runs_of, runs_with}
 use Rattle.gridding.specs.PackedPlace.{packed_row}
-use Rattle.gridding.specs.Blocks.{rows_with, runs_of, runs_with}
 use Rattle.gridding.specs.GriddedRows.{AreBlocksOf, HasAdded, HasKept, HasPut, HasRoom, IsApart, IsAway, IsFull, IsOneTooMany}
 use Rattle.gridding.specs.declared.packed_place.PackedPlace.{PackedPlace}
 use Rattle.gridding.specs.declared.track_blocks.TheConstants.{ROWS}
@@ -45,15 +43,7 @@ last_before : (object opened : ℕ) (objects : List ℕ) (last : Option ℕ) →
 last_before object opened objects None differ none =
     grind (arith, nat_tests, filter-append (λ other. other == object) objects (opened ∷ []))
 last_before object opened objects (Some place) differ (is, none) =
-    let within : place < length objects = slice_get_within objects place object is in (
-      slice_get-append_left objects (opened ∷ []) place within ∙ is,
-      grind (
-        arith,
-        nat_tests,
-        drop-append-le (suc place) objects (opened ∷ []) (omega arith),
-        filter-append (λ other. other == object) (drop (suc place) objects) (opened ∷ []),
-      ),
-    )
+    grind (arith, nat_tests, slice_get_within, slice_get-append_left, drop-append-le, filter-append)
 
 -- an object of which there is none stands nowhere
 stands_nowhere : (object : ℕ) (objects : List ℕ) (place : ℕ) → filter (λ other. other == object) objects ≡ [] →
@@ -61,10 +51,7 @@ stands_nowhere : (object : ℕ) (objects : List ℕ) (place : ℕ) → filter (�
 stands_nowhere object [] place none is = omega (arith, slice_get_within [] place object is)
 stands_nowhere object (other ∷ objects) zero none is =
     let same : other ≡ object = get_or_from_slice_get (other ∷ objects) 0 object object is in grind (arith, nat_tests)
-stands_nowhere object (other ∷ objects) (suc place) none is = elim (cases_eq other object) [
-  | inl same ↦ grind (arith, nat_tests)
-  | inr differ ↦ stands_nowhere object objects place (grind (arith, nat_tests)) is
-]
+stands_nowhere object (other ∷ objects) (suc place) none is = grind (arith, stands_nowhere object objects place (grind arith) is)
 
 -- an object stands nowhere after its last place
 place_le : (object : ℕ) (objects : List ℕ) (last place : ℕ) →
@@ -89,41 +76,25 @@ module _ (origin : Origin) where
 
   -- of two lists of runs
   rows_in-append : (object : ℕ) (xs ys : List ObjectRun) → rows_in object (xs ++ ys) ≡ rows_in object xs ++ rows_in object ys
-  rows_in-append object xs ys =
-      ap (rows_of_runs origin) (filter-append (λ run. run.0 == object) xs ys)
-      ∙ flat_map-append (rows_of_run origin) (runs_with object xs) (runs_with object ys)
+  rows_in-append object xs ys = grind (arith, nat_tests, filter-append, flat_map-append)
 
   -- of a run of one place
   rows_in-opened : (object : ℕ) (place : PackedPlace) (other : ℕ) →
       rows_in other ((object, place ∷ []) ∷ []) ≡ rows_with other (packed_row origin object place ∷ [])
-  rows_in-opened object place other = elim (cases_eq object other) [
-    | inl is ↦ grind (arith, nat_tests)
-    | inr differ ↦ grind (arith, nat_tests)
-  ]
+  rows_in-opened object place other = grind arith
 
   -- where there is no run of an object
   rows_in-none : (object : ℕ) (runs : List ObjectRun) → filter (λ other. other == object) (map owner runs) ≡ [] →
       rows_in object runs ≡ []
   rows_in-none object [] none = refl
-  rows_in-none object (run ∷ runs) none = elim (cases_eq run.0 object) [
-    | inl is ↦ grind (arith, nat_tests)
-    | inr differ ↦ grind (arith, nat_tests, rows_in-none object runs)
-  ]
+  rows_in-none object (run ∷ runs) none = grind (arith, rows_in-none object runs)
 
   -- of one place more in a run after which there is none of its object
   rows_in-put : (object : ℕ) (places : List PackedPlace) (place : PackedPlace) (other : ℕ) (runs : List ObjectRun) →
       filter (λ own. own == object) (map owner runs) ≡ [] →
       rows_in other ((object, places ++ (place ∷ [])) ∷ runs)
       ≡ rows_in other ((object, places) ∷ runs) ++ rows_with other (packed_row origin object place ∷ [])
-  rows_in-put object places place other runs none =
-      let none_after = rows_in-none object runs none in
-      let put = map-append (packed_row origin object) places (place ∷ []) in
-      elim (cases_eq object other) [
-        | inl is ↦
-            let end = append-nil (map (packed_row origin object) places) in
-            grind (arith, nat_tests, none_after, put, end, append-nil (map (packed_row origin object) (places ++ (place ∷ []))))
-        | inr differ ↦ grind (arith, nat_tests, append-nil (rows_in other runs))
-      ]
+  rows_in-put object places place other runs none = grind (arith, nat_tests, rows_in-none, map-append, append-nil)
 
   -- of one place more in an object's last run
   rows_in-pushed : (object last : ℕ) (places : List PackedPlace) (place : PackedPlace) (other : ℕ) (runs : List ObjectRun) →
@@ -134,18 +105,12 @@ module _ (origin : Origin) where
   rows_in-pushed object zero places place other (run ∷ runs) d (is, none) here =
       rw here (rows_in-put object places place other runs none)
   rows_in-pushed object (suc last) places place other (run ∷ runs) d (is, none) here =
-      let pushed : ObjectRun = (object, places ++ (place ∷ [])) in
-      let rest = rows_in-pushed object last places place other runs d (is, none) here in
-      rows_in-append other (run ∷ []) (set runs last pushed) ∙ ap (λ rows. rows_in other (run ∷ []) ++ rows) rest
-      ∙ sym (append_assoc (rows_in other (run ∷ [])) (rows_in other runs) (rows_with other (packed_row origin object place ∷ [])))
-      ∙ ap (λ rows. rows ++ rows_with other (packed_row origin object place ∷ [])) (sym (rows_in-append other (run ∷ []) runs))
+      grind (arith, nat_tests, rows_in-pushed object last places place other runs d (is, none) here, rows_in-append, append_assoc)
 
 -- each block has its filled places
 filled_long : (rows : List Row) (tracks : TrackBlocks) → AreBlocksOf rows tracks →
     length (map filled_of (zip tracks.blocks.items tracks.lengths.items)) ≡ length tracks.objects.items
-filled_long rows tracks blocks =
-    let pairs = length-map (zip tracks.blocks.items tracks.lengths.items) filled_of in
-    omega (arith, pairs, length-zip tracks.blocks.items tracks.lengths.items, blocks.objects, blocks.lengths)
+filled_long rows tracks blocks = grind (arith, nat_tests, length-map, length-zip)
 
 -- a row more
 module _ (rows : List Row) (old new : TrackBlocks) (object : ℕ) (place : PackedPlace) (blocks : AreBlocksOf rows old) (origin_stays : new.origin ≡ old.origin) where
@@ -154,9 +119,7 @@ module _ (rows : List Row) (old new : TrackBlocks) (object : ℕ) (place : Packe
       rows_in old.origin other (runs_of new) ≡ rows_in old.origin other (runs_of old) ++ rows_with other (packed_row old.origin object place ∷ []) →
       rows_in new.origin other (runs_of new) ≡ rows_with other (rows ++ (packed_row old.origin object place ∷ []))
   unfolding runs_of
-  held_more other more =
-      rw origin_stays more ∙ ap (λ held. held ++ rows_with other (packed_row old.origin object place ∷ [])) (blocks.held other)
-      ∙ sym (filter-append (λ row. row.object == other) rows (packed_row old.origin object place ∷ []))
+  held_more other more = grind (arith, nat_tests, filter-append)
 
   -- in the object's last block
   pub blocks_pushed : (last n : ℕ) (places pushed : List PackedPlace) →
@@ -280,26 +243,13 @@ pub blocks_begun : (rows : List Row) (old new : TrackBlocks) → AreBlocksOf row
     new.blocks ≡ old.blocks → new.objects ≡ old.objects → new.lengths ≡ old.lengths → new.last_of ≡ old.last_of →
     AreBlocksOf rows new
 unfolding runs_of
-blocks_begun rows old new blocks none blocks_stay objects_stay lengths_stay map_stays =
-    let no_objects : old.objects.items ≡ [] = nil_from_length old.objects.items (blocks.objects ∙ none) in
-    record {
-      objects = rw (objects_stay, blocks_stay) blocks.objects;
-      lengths = rw (lengths_stay, blocks_stay) blocks.lengths;
-      held = λ object. rw (objects_stay, no_objects) (rw no_objects at (blocks.held object));
-      last = λ object. rw (objects_stay, map_stays) (blocks.last object);
-      room = λ object place stands room. rw objects_stay
-          (blocks.room object place (rw objects_stay at stands) (rw lengths_stay at room));
-    }
+blocks_begun rows old new blocks none blocks_stay objects_stay lengths_stay map_stays = grind (arith, nat_tests, nil_from_length)
 
 -- an object has no room where its last block has none, or where it has no block
 pub full_from_last : (rows : List Row) (tracks : TrackBlocks) (object last : ℕ) → AreBlocksOf rows tracks →
     get nat_eq tracks.last_of object ≡ Some last →
     (slice_get tracks.objects.items last ≡ Some object → HasRoom tracks last → ⊥) → IsFull object tracks
-full_from_last rows tracks object last blocks is none place stands room =
-    let objects : List ℕ = tracks.objects.items in
-    let told : IsLastOf object objects (Some last) = rw is at (blocks.last object) in
-    let one : place ≡ last = same_last object objects place last (blocks.room object place stands room) told in
-    none told.0 (rw one at room)
+full_from_last rows tracks object last blocks is none place stands room = grind (arith, nat_tests, same_last)
 
 pub full_from_none : (rows : List Row) (tracks : TrackBlocks) (object : ℕ) → AreBlocksOf rows tracks →
     get nat_eq tracks.last_of object ≡ None → IsFull object tracks

@@ -1,14 +1,13 @@
 -- What holds of the rows of every chart.
-use Rattle.std.proofs.Common.{◌≡◌, ℕ, ◌/◌, ◌<◌, ◌≤◌, Bool, true, false, List, [], ◌∷◌, length, map, refl, ◌∙◌, ap, arith}
-use Rattle.std.specs.Prelude.{All, ℤ, pos, negsuc, find, reverse, option_map}
+use Rattle.std.proofs.Common.{◌≡◌, ℕ, ◌<◌, ◌≤◌, Bool, true, false, List, [], ◌∷◌, length, map, refl, ◌∙◌, ap, arith}
+use Rattle.std.specs.Prelude.{All, ℤ, pos, find, reverse, option_map}
 use Rattle.std.specs.List.{AllByRecursion, list_any}
 use Rattle.std.proofs.lemmas.List.Sorted.{length_permutation}
-use Rattle.std.proofs.Math.Nat.{div-le_self}
-use Rattle.std.proofs.lemmas.Int.{ints}
 use Rattle.std.proofs.lemmas.List.{length-map}
 use Rattle.std.proofs.lemmas.List.Elements.{All-from_recursion, recursion_from_All}
+use Rattle.std.proofs.lemmas.Bool.Decides.{nat_tests}
 use Rattle.track_types.specs.ByFilter.{cell_at}
-use Rattle.track_types.specs.Near.{IsNear, IsRawInRange, IsRowInRange}
+use Rattle.track_types.specs.Near.{IsRawInRange, IsRowInRange}
 use Rattle.track_types.specs.Row.{is_row_of, is_same_place, row_order}
 use Rattle.track_types.specs.declared.raw_row.RawRow.{RawRow}
 use Rattle.track_types.specs.declared.row.Row.{Row}
@@ -17,14 +16,6 @@ use Rattle.list_laws.proofs.MemberLemmas.{some_from_any}
 use Rattle.list_laws.proofs.OrderedLemmas.{IsPermutation-ordered, all-ordered, any-ordered}
 use Rattle.gridding.proofs.KeptLemmas.{any-last_of_each_instant, found-chart_rows, place_equiv}
 use Rattle.gridding.specs.ChartOf.{chart_rows, gridded, last_of_each_instant}
-use Rattle.gridding.specs.Floor.{floor_div}
-
--- a quotient is not farther from 0
-IsNear-floor_div : (a : ℤ) (d : ℕ) → IsNear a → IsNear (floor_div a d)
-IsNear-floor_div (pos a) d near = let less : a / d ≤ a = div-le_self a d in
-    record { low = omega (arith, ints); high = omega (arith, ints, near.high) }
-IsNear-floor_div (negsuc a) d near = let less : a / d ≤ a = div-le_self a d in
-    record { low = omega (arith, ints, near.low); high = omega (arith, ints) }
 
 -- what holds of all rows holds of those that are kept
 all-kept_at : (P : Row → Type 0) (row : Row) (later : List Row) (again : Bool) → list_any (is_same_place row) later ≡ again → P row →
@@ -39,11 +30,7 @@ all-last_of_each_instant P (row ∷ later) all = all-kept_at P row later (list_a
 
 -- a raw row in range is gridded to a row in range
 pub IsRowInRange-gridded : (raw : RawRow) (cell tick : ℕ) → IsRawInRange raw → IsRowInRange (gridded cell tick raw)
-IsRowInRange-gridded raw cell tick near = record {
-  instant = IsNear-floor_div raw.time tick near.time;
-  x = IsNear-floor_div raw.x cell near.x;
-  y = IsNear-floor_div raw.y cell near.y;
-}
+IsRowInRange-gridded raw cell tick near = grind (arith, nat_tests)
 
 -- they are in range
 pub chart_rows-in_range : (raws : List RawRow) (cell tick : ℕ) → All IsRawInRange raws → All IsRowInRange (chart_rows raws cell tick)

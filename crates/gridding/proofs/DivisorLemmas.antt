@@ -23,10 +23,7 @@ div-by_reciprocal n d w some small =
 
 -- the quotient is the greatest number whose product with the divisor is not above
 IsFloor-floor_div : (a : ℤ) (d : ℕ) → 0 < d → IsFloor a d (floor_div a d)
-IsFloor-floor_div (pos a) d some =
-    let low : a / d * d ≤ a = div-mul-le_self a d in
-    let high : a < a / d * d + d = lt-div-mul-add some in
-    record { at_most = omega (arith, ints, low); greatest = omega (arith, ints, high) }
+IsFloor-floor_div (pos a) d some = grind (arith, ints)
 IsFloor-floor_div (negsuc a) d some =
     let low : a / d * d ≤ a = div-mul-le_self a d in
     let high : a < a / d * d + d = lt-div-mul-add some in

@@ -1,9 +1,9 @@
 -- Rows in order that are found as in blocks of raw rows are those of the chart of the raw rows.
-use Rattle.std.proofs.Common.{◌≡◌, ◌≢◌, ℕ, ◌+◌, ◌<◌, length, take, get_or, true, false, List, [], ◌∷◌, ◌++◌, filter, map, refl, sym, ◌∙◌, ap, arith, inl, inr}
+use Rattle.std.proofs.Common.{◌≡◌, ◌≢◌, ℕ, ◌+◌, ◌<◌, length, take, get_or, true, false, List, [], ◌∷◌, ◌++◌, filter, map, refl, sym, ◌∙◌, ap, arith}
 use Rattle.std.specs.Prelude.{find, reverse, slice_get, ◌==◌}
 use Rattle.std.specs.Option.{option_or}
 use Rattle.std.specs.Ordering.{eq_by_cmp}
-use Rattle.std.proofs.lemmas.Bool.{and_parts, cases_Bool}
+use Rattle.std.proofs.lemmas.Bool.{and_parts}
 use Rattle.std.proofs.lemmas.Bool.Decides.{nat_tests}
 use Rattle.std.proofs.lemmas.List.{append_assoc, map-append, reverse-append, take_more}
 use Rattle.std.proofs.lemmas.List.Folds.{find-append}
@@ -16,7 +16,7 @@ use Rattle.track_types.specs.Row.{IsAscending, is_same_place, row_order}
 use Rattle.track_types.specs.declared.raw_row.RawRow.{RawRow}
 use Rattle.track_types.specs.declared.row.Row.{Row}
 use Rattle.list_laws.specs.Ordered.{ordered}
-use Rattle.gridding.specs.Blocks.{ObjectRun, rows_of_run, rows_of_runs, rows_with, runs_of, runs_with}
+use Rattle.gridding.specs.Blocks.{ObjectRun, rows_of_runs, rows_with, runs_of, runs_with}
 use Rattle.gridding.specs.ChartOf.{chart_rows, gridded, last_of_each_instant}
 use Rattle.gridding.specs.GridLimit.{IsGridFault, IsRefusal, first_past}
 use Rattle.gridding.specs.declared.fault.GridFault.{GridFault}
@@ -45,24 +45,12 @@ module _ (origin : Origin) where
   rows_with-runs : (object : ℕ) (runs : List ObjectRun) →
       rows_with object (rows_of_runs origin runs) ≡ rows_of_runs origin (runs_with object runs)
   rows_with-runs object [] = refl
-  rows_with-runs object (run ∷ runs) =
-      let rest = rows_with-runs object runs in
-      let parts = filter-append (λ row. row.object == object) (rows_of_run origin run) (rows_of_runs origin runs) in
-      elim (cases_Bool (run.0 == object)) [
-        | inl own ↦ grind (arith, nat_tests, rest, parts, own, rows_with-own object run.1)
-        | inr other ↦ grind (arith, rest, parts, other, rows_with-other object run.0 run.1 other)
-      ]
+  rows_with-runs object (run ∷ runs) = grind (arith, nat_tests, rows_with-runs object runs, filter-append, rows_with-own, rows_with-other)
 
 -- blocks of the rows that are in blocks have the rows that those have
 pub blocks_anew : (rows : List Row) (old new : TrackBlocks) → AreBlocksOf rows old →
     AreBlocksOf (rows_of_runs old.origin (runs_of old)) new → AreBlocksOf rows new
-blocks_anew rows old new blocks made = record {
-  objects = made.objects;
-  lengths = made.lengths;
-  held = λ object. made.held object ∙ rows_with-runs old.origin object (runs_of old) ∙ blocks.held object;
-  last = made.last;
-  room = made.room;
-}
+blocks_anew rows old new blocks made = grind (arith, nat_tests, rows_with-runs)
 
 -- a search for a place looks at the rows of its object alone
 found-by_object : (sought : Row) (rows : List Row) →
@@ -76,11 +64,7 @@ found-by_object sought rows =
 
 found-blocks : (rows : List Row) (tracks : TrackBlocks) → AreBlocksOf rows tracks → (sought : Row) →
     found sought (reverse (rows_of_runs tracks.origin (runs_of tracks))) ≡ found sought (reverse rows)
-found-blocks rows tracks blocks sought =
-    found-by_object sought (rows_of_runs tracks.origin (runs_of tracks))
-    ∙ ap (λ all. slice_get (reverse (filter (is_same_place sought) all)) 0)
-    (rows_with-runs tracks.origin sought.object (runs_of tracks) ∙ blocks.held sought.object)
-    ∙ sym (found-by_object sought rows)
+found-blocks rows tracks blocks sought = grind (arith, nat_tests, found-by_object, rows_with-runs)
 
 -- with rows after, these are searched first
 found-after : (sought : Row) (front back : List Row) →
@@ -94,11 +78,7 @@ rows_held all = rows_of_runs all.tracks.origin (runs_of all.tracks) ++ all.loose
 
 found-held : (rows : List Row) (all : GriddedRows) → HoldsRows rows all → (sought : Row) →
     found sought (reverse (rows_held all)) ≡ found sought (reverse rows)
-found-held rows all held sought =
-    let loose : List Row = all.loose.items in
-    found-after sought (rows_of_runs all.tracks.origin (runs_of all.tracks)) loose
-    ∙ ap (λ front. option_or (found sought (reverse loose)) front) (found-blocks held.front all.tracks held.blocks sought)
-    ∙ sym (ap (λ rows. found sought (reverse rows)) held.all ∙ found-after sought held.front loose)
+found-held rows all held sought = grind (arith, nat_tests, found-after, found, found-blocks)
 
 -- rows in order that are found as in the rows that are held are those of the chart
 pub chart_rows-held : (raws : List RawRow) (cell tick : ℕ) (all : GriddedRows) (made : List Row) → HasGridded cell tick raws all →

@@ -1,14 +1,14 @@
 -- What a search for a row's object and instant finds in the rows of a chart, and that these are in order.
-use Rattle.std.proofs.Common.{◌≡◌, Bool, true, false, List, [], ◌∷◌, ◌++◌, Ordering, Option, None, refl, sym, ◌∙◌, ap}
+use Rattle.std.proofs.Common.{◌≡◌, Bool, true, false, List, [], ◌∷◌, ◌++◌, Option, None, refl, sym, ◌∙◌, ap, arith}
 use Rattle.std.specs.Prelude.{find, reverse}
 use Rattle.std.specs.Cmp.{IsEquivalence}
 use Rattle.std.specs.List.{list_any}
 use Rattle.std.specs.Option.{option_or}
-use Rattle.std.specs.Ordering.{is_eq, is_lt}
-use Rattle.std.specs.declared.cmp.Ordering.TheVariants.{Less, Equal, Greater}
+use Rattle.std.specs.Ordering.{is_lt}
 use Rattle.std.proofs.lemmas.Cmp.{and_equiv, int_eq_equiv, nat_eq_equiv, on_equiv}
 use Rattle.std.proofs.lemmas.List.{reverse-append}
 use Rattle.std.proofs.lemmas.List.Folds.{find-append}
+use Rattle.std.proofs.lemmas.Bool.Decides.{nat_tests}
 use Rattle.track_types.proofs.RowLemmas.{eq_by_cmp-row_order, row_order_total}
 use Rattle.track_types.specs.Row.{IsAscending, is_same_place, row_order}
 use Rattle.track_types.specs.declared.row.Row.{Row}
@@ -40,9 +40,7 @@ any-kept_at : (sought row : Row) (later : List Row) (again passes : Bool) → li
     is_same_place sought row ≡ passes → list_any (is_same_place sought) (last_of_each_instant later) ≡ list_any (is_same_place sought) later →
     list_any (is_same_place sought) (last_of_each_instant (row ∷ later)) ≡ list_any (is_same_place sought) (row ∷ later)
 unfolding last_of_each_instant
-any-kept_at sought row later true true again passes rest =
-    let some : list_any (is_same_place sought) later ≡ true = same_seek_alike sought row later passes ∙ again in
-    rw (again, passes) (rest ∙ some)
+any-kept_at sought row later true true again passes rest = grind arith
 any-kept_at sought row later true false again passes rest = rw (again, passes) rest
 any-kept_at sought row later false passing again passes rest = rw (again, rest) refl
 
@@ -57,8 +55,7 @@ found-kept_at : (sought row : Row) (later : List Row) (again passes : Bool) → 
     found sought (last_of_each_instant (row ∷ later)) ≡ option_or (found sought (last_of_each_instant later)) (found sought (row ∷ []))
 unfolding last_of_each_instant
 found-kept_at sought row later true true again passes =
-    let some : list_any (is_same_place sought) (last_of_each_instant later) ≡ true = any-last_of_each_instant sought later ∙ same_seek_alike sought row later passes ∙ again in
-    rw (again) (sym (find-some_passes (is_same_place sought) (last_of_each_instant later) (found sought (row ∷ [])) some))
+    grind (arith, nat_tests, any-last_of_each_instant, same_seek_alike, find-some_passes)
 found-kept_at sought row later true false again passes = rw (again, passes) (sym (option_or-none (found sought (last_of_each_instant later))))
 found-kept_at sought row later false true again passes =
     let none : list_any (is_same_place sought) (last_of_each_instant later) ≡ false = any-last_of_each_instant sought later ∙ same_seek_alike sought row later passes ∙ again in
@@ -79,13 +76,7 @@ found-last_of_each_instant sought (row ∷ later) =
 
 -- no row comes before another of its place
 tied_place : (sought a b : Row) → is_same_place sought a ≡ true → is_same_place sought b ≡ true → is_lt (row_order a b) ≡ false
-tied_place sought a b first second =
-    by_order (row_order a b) (eq_by_cmp-row_order a b ∙ sym (place_equiv.congr sought a b first) ∙ second)
-  where
-    by_order : (o : Ordering) → is_eq o ≡ true → is_lt o ≡ false
-    by_order Less tied = absurd (cc)
-    by_order Equal tied = refl
-    by_order Greater tied = refl
+tied_place sought a b first second = grind (arith, nat_tests)
 
 -- no two rows that are kept tie
 apart-kept_at : (row : Row) (later : List Row) (again : Bool) → list_any (is_same_place row) later ≡ again →

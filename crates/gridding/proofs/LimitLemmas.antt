@@ -1,8 +1,6 @@
 -- Which quantity is refused.
-use Rattle.std.proofs.Common.{◌≡◌, ℕ, ◌<◌, ◌≤◌, true, false, [], ◌∷◌, length, arith, Option, Some, None, Result, Ok, Err, refl, sym, subst}
-use Rattle.std.specs.Prelude.{All, IfErr, List, nat_lt}
-use Rattle.std.proofs.lemmas.Bool.Decides.{nat_tests}
-use Rattle.list_laws.proofs.FindLemmas.{find-passed_over}
+use Rattle.std.proofs.Common.{◌≡◌, ℕ, ◌<◌, ◌≤◌, true, false, length, arith, Option, Some, None, Result, Ok, Err, sym, subst}
+use Rattle.std.specs.Prelude.{All, IfErr, List}
 use Rattle.track_types.specs.Chart.{IsChart, chart_with}
 use Rattle.track_types.specs.Limits.{IsPeriod, IsResolution, limit_of}
 use Rattle.track_types.specs.Near.{IsRowInRange}
@@ -33,45 +31,13 @@ pub record IsJudged (rows : List Row) (period terminals : ℕ) : Type 0 where
 module _ {rows : List Row} {period terminals : ℕ} (judged : IsJudged rows period terminals) where
   -- the terminals are refused
   pub symbols_past : is_past (Symbols, terminals) ≡ true → first_past rows period ≡ Some (Symbols, terminals)
-  symbols_past past =
-      let there : is_past (Symbols, symbol_count rows period) ≡ true = rw judged.symbols at past in
-      rw (judged.objects, judged.span, judged.extent, judged.blocks, there, judged.symbols) refl
+  symbols_past past = grind arith
 
   -- nothing is
   pub none_past : is_past (Symbols, terminals) ≡ false → first_past rows period ≡ None
-  none_past within =
-      let there : is_past (Symbols, symbol_count rows period) ≡ false = rw judged.symbols at within in
-      rw (judged.objects, judged.span, judged.extent, judged.blocks, there) refl
-
-within_limit : (limit value : ℕ) → nat_lt limit value ≡ false → value ≤ limit
-within_limit limit value not_past = grind (arith, nat_tests)
+  none_past within = grind arith
 
 -- rows in order and in range, of which no quantity passes its limit, are those of a chart
 pub chart_with-IsChart : (rows : List Row) (cell tick period : ℕ) → 0 < length rows → length rows ≤ limit_of Rows → IsAscending rows → All IsRowInRange rows →
     IsResolution cell → IsResolution tick → IsPeriod period → first_past rows period ≡ None → IsChart (chart_with rows cell tick period)
-chart_with-IsChart rows cell tick period some few up in_range is_cell is_tick is_period none =
-    let after_blocks = (Symbols, symbol_count rows period) ∷ [] in
-    let after_extent = (Blocks, block_count rows period) ∷ after_blocks in
-    let after_span = (Extent, extent_of rows) ∷ after_extent in
-    let after_objects = (Span, span_of rows) ∷ after_span in
-    let objects = find-passed_over is_past (Objects, object_count rows) after_objects none in
-    let span = find-passed_over is_past (Span, span_of rows) after_span objects.1 in
-    let extent = find-passed_over is_past (Extent, extent_of rows) after_extent span.1 in
-    let blocks = find-passed_over is_past (Blocks, block_count rows period) after_blocks extent.1 in
-    let symbols = find-passed_over is_past (Symbols, symbol_count rows period) [] blocks.1 in
-    record {
-      some = some;
-      rows = few;
-      ascending = up;
-      in_range = in_range;
-      first = refl;
-      last = refl;
-      cell = is_cell;
-      tick = is_tick;
-      period = is_period;
-      objects = within_limit (limit_of Objects) (object_count rows) objects.0;
-      span = within_limit (limit_of Span) (span_of rows) span.0;
-      extent = within_limit (limit_of Extent) (extent_of rows) extent.0;
-      blocks = within_limit (limit_of Blocks) (block_count rows period) blocks.0;
-      symbols = within_limit (limit_of Symbols) (symbol_count rows period) symbols.0;
-    }
+chart_with-IsChart rows cell tick period some few up in_range is_cell is_tick is_period none = grind arith

@@ -1,5 +1,5 @@
 -- How many objects rows in order have: an object's rows stand together, so that it is how often they go on to another one.
-use Rattle.std.proofs.Common.{◌≡◌, ℕ, suc, ◌+◌, ◌≤◌, ◌<◌, Bool, true, false, List, [], ◌∷◌, ◌++◌, length, map, Option, Some, None, refl, sym, ◌∙◌, ap, arith}
+use Rattle.std.proofs.Common.{◌≡◌, ℕ, suc, ◌+◌, ◌≤◌, ◌<◌, Bool, true, false, List, [], ◌∷◌, ◌++◌, length, map, Option, Some, None, refl, ◌∙◌, ap, arith}
 use Rattle.std.specs.Prelude.{pos, fold, if◌then◌else◌, ◌==◌}
 use Rattle.std.specs.List.{AllByRecursion, list_any}
 use Rattle.std.specs.List.Sorted.{IsStrictlySortedBy}
@@ -25,10 +25,7 @@ none_after : (object : ℕ) (row : Row) (rest : List Row) → object < row.objec
     AllByRecursion (λ y. row_order row y ≡ Less) rest →
     list_any (λ y. object == y) (map (λ y. y.object) rest) ≡ false
 none_after object row [] below all = refl
-none_after object row (y ∷ rest) below all =
-    let further : row.object ≤ y.object = object_le row y all.0 in
-    let differs : (object == y.object) ≡ false = grind (arith, nat_tests) in
-    rw (differs, none_after object row rest below all.1) refl
+none_after object row (y ∷ rest) below all = grind (arith, none_after object row rest below all.1)
 
 -- the runs of rows in order are those of the different objects
 changes_at : (row next : Row) (rest : List Row) (same : Bool) → (row.object == next.object) ≡ same →
@@ -36,9 +33,7 @@ changes_at : (row next : Row) (rest : List Row) (same : Bool) → (row.object ==
     1 + object_changes (Some next.object) rest ≡ length (distinct (map (λ y. y.object) (next ∷ rest))) →
     1 + object_changes (Some row.object) (next ∷ rest) ≡ length (distinct (map (λ y. y.object) (row ∷ next ∷ rest)))
 unfolding object_changes distinct IsStrictlySortedBy
-changes_at row next rest true same up behind =
-    let one : 1 + (0 + object_changes (Some next.object) rest) ≡ 1 + object_changes (Some next.object) rest = omega arith in
-    rw same (one ∙ behind)
+changes_at row next rest true same up behind = grind arith
 changes_at row next rest false same up behind =
     let before : row.object ≤ next.object = object_le row next up.0.0 in
     let below : row.object < next.object = grind (arith, nat_tests) in
@@ -92,10 +87,7 @@ IsAscending-front (row ∷ rows) back up = (below_front row rows back up.0, IsAs
 -- a row after others in order has another object than all of them where the row before it has
 pub object_count-more : (rows : List Row) (row : Row) → IsAscending (rows ++ row ∷ []) →
     object_count (rows ++ row ∷ []) ≡ object_count rows + (if is_object_of (last_object rows) row.object then 0 else 1)
-object_count-more rows row up =
-    sym (object_changes-ascending (rows ++ row ∷ []) up) ∙ object_changes-more None rows row
-    ∙ ap (λ n. n + (if is_object_of (last_object rows) row.object then 0 else 1))
-    (object_changes-ascending rows (IsAscending-front rows (row ∷ []) up))
+object_count-more rows row up = grind (arith, nat_tests, object_changes-ascending, object_changes-more, IsAscending-front)
 
 -- there are not more objects than rows
 pub object_count-le : (rows : List Row) → IsAscending rows → object_count rows ≤ length rows

@@ -1,7 +1,6 @@
 -- From which origins all rows of blocks have places.
-use Rattle.std.proofs.Common.{◌≡◌, ◌≢◌, ◌∙◌, ℕ, zero, suc, ◌<◌, List, [], ◌∷◌, ◌++◌, All, get_or, length, arith, ap, map, sym, take, ◌+◌, w64, to_z, of_z}
+use Rattle.std.proofs.Common.{◌≡◌, ◌∙◌, ℕ, zero, suc, ◌<◌, List, [], ◌∷◌, ◌++◌, All, get_or, length, arith, ap, map, sym, take, ◌+◌, w64, to_z, of_z}
 use Rattle.std.specs.Prelude.{ℤ, fold, pos, ◌+ℤ◌, ◌≤ℤ◌, ◌<ℤ◌}
-use Rattle.std.specs.Int.{int_max, int_min}
 use Rattle.std.specs.List.{AllByRecursion}
 use Rattle.std.proofs.lemmas.Int.{fits_signed_from_abs, int_max_is, int_min_is, ints, to_z-of_z}
 use Rattle.std.proofs.lemmas.List.{append-nil, map-append, take_more}
@@ -20,7 +19,7 @@ use Rattle.gridding.specs.Recounting.{IsCentred, IsExtentWithin, IsOfExtent}
 use Rattle.track_types.specs.declared.extents.Extent.{Extent}
 use Rattle.gridding.specs.declared.packed_place.Origin.{Origin}
 use Rattle.gridding.specs.declared.packed_place.PackedPlace.{PackedPlace}
-use Rattle.gridding.specs.declared.packed_place.TheConstants.{CELLS, INSTANTS}
+use Rattle.gridding.specs.declared.packed_place.TheConstants.{INSTANTS}
 use Rattle.gridding.specs.declared.track_blocks.TrackBlocks.{TrackBlocks}
 
 -- a number that is not far from 0 fits a word
@@ -32,10 +31,7 @@ within_near z near = record { low = omega (arith, ints, near.low); high = omega 
 
 -- an extent that is widened by a number
 pub IsExtentWithin-widened : (extent : Extent) (z : ℤ) → IsExtentWithin extent → IsWithin z → IsExtentWithin (widened extent z)
-IsExtentWithin-widened extent z within near = record {
-  least = omega (arith, ints, int_min_is extent.least z, within.least, near.low);
-  greatest = omega (arith, ints, int_max_is extent.greatest z, within.greatest, near.high);
-}
+IsExtentWithin-widened extent z within near = grind (arith, ints)
 
 pub IsOfExtent-widened : (extent : Extent) (z : ℤ) → IsOfExtent (widened extent z) z
 IsOfExtent-widened extent z =
@@ -64,10 +60,7 @@ module _ (origin : Origin) where
   IsAmong extent = (origin.instant ≤ℤ extent.least) × (extent.greatest <ℤ (origin.instant +ℤ pos INSTANTS))
 
   among-widened : (extent : Extent) (z : ℤ) → IsAmong extent → IsOneOf origin.instant INSTANTS z → IsAmong (widened extent z)
-  among-widened extent z (low, high) (after, before) = (
-    omega (arith, ints, int_min_is extent.least z, low, after),
-    omega (arith, ints, int_max_is extent.greatest z, high, before),
-  )
+  among-widened extent z (low, high) (after, before) = grind (arith, ints)
 
   among : (extent : Extent) (rows : List Row) → IsAmong extent → AllByRecursion (HasPlace origin) rows →
       IsAmong (fold widened extent (instants_of rows))

@@ -1,18 +1,16 @@
 -- Anchors of rows in order: a row is its block's anchor where the row before it is of another block.
-use Rattle.std.proofs.Common.{◌≡◌, ℕ, ℤ, suc, ◌+◌, ◌≤◌, ◌<◌, Bool, true, false, List, [], ◌∷◌, ◌++◌, Ordering, Option, Some, None, append_assoc, drop, eq-eqb, get_or, length, refl, sym, ◌∙◌, ap, arith, inl, inr, ◌⊎◌}
+use Rattle.std.proofs.Common.{◌≡◌, ℕ, ℤ, suc, ◌+◌, ◌≤◌, ◌<◌, Bool, true, false, List, [], ◌∷◌, ◌++◌, Option, Some, None, append_assoc, drop, eq-eqb, get_or, length, refl, sym, ◌∙◌, ap, arith, inl, inr, ◌⊎◌}
 use Rattle.std.specs.Prelude.{if◌then◌else◌, ◌==◌, ◌&&◌, ◌||◌, not, filter, sum_by, option_map, All, ◌*◌, ◌/◌, ◌<ℤ◌, ◌≤ℤ◌, ◌+ℤ◌, ◌-ℤ◌, nat_lt, pos, unsigned_abs}
 use Rattle.std.specs.Int.Signed.{lt_z}
 use Rattle.std.specs.List.{AllByRecursion, list_any, prefix_len}
 use Rattle.std.specs.List.Sorted.{IsStrictlySortedBy}
-use Rattle.std.specs.Ordering.{MatchOrdering, int_cmp, nat_cmp, ordering_then}
-use Rattle.std.specs.declared.cmp.Ordering.TheVariants.{Less, Equal, Greater}
-use Rattle.std.proofs.Math.Bool.{and-false, and-true}
+use Rattle.std.specs.declared.cmp.Ordering.TheVariants.{Less}
+use Rattle.std.proofs.Math.Bool.{and-false}
 use Rattle.std.proofs.lemmas.Bool.Decides.{nat_tests}
 use Rattle.std.proofs.lemmas.Bool.{and_parts}
 use Rattle.std.proofs.lemmas.Int.{ints}
 use Rattle.std.proofs.Math.Nat.{div-lt_iff_lt-mul}
 use Rattle.std.proofs.lemmas.Nat.{le-div}
-use Rattle.std.proofs.lemmas.Cmp.{ranked, int_ranked}
 use Rattle.std.proofs.lemmas.List.Elements.{recursion_from_All}
 use Rattle.std.proofs.lemmas.List.Folds.{list_any-append}
 use Rattle.list_laws.proofs.FilterLemmas.{sum_by-filter_more}
@@ -29,24 +27,8 @@ abbrev is_block_of : Option Block → Row → Bool
 is_block_of None row = false
 is_block_of (Some before) row = is_of_block before row
 
--- the order of two rows, as an order of their objects and instants
-in_order : (m n : ℕ) (r o : Ordering) {P : Type 0} → MatchOrdering r (m < n) (m ≡ n) (n < m) → (o ≡ Less → P) →
-    ordering_then r o ≡ Less → (m < n) ⊎ ((m ≡ n) × P)
-in_order m n Less o is behind below = inl is
-in_order m n Equal o is behind below = inr (is, behind below)
-in_order m n Greater o is behind below = absurd (cc)
-
-earlier_instant : (x y : ℤ) (o : Ordering) → MatchOrdering o (x <ℤ y) (x ≡ y) (y <ℤ x) → o ≡ Less → x <ℤ y
-earlier_instant x y Less is less = is
-earlier_instant x y Equal is less = absurd (cc)
-earlier_instant x y Greater is less = absurd (cc)
-
 pub order_cases : (a b : Row) → row_order a b ≡ Less → (a.object < b.object) ⊎ ((a.object ≡ b.object) × (a.instant <ℤ b.instant))
-order_cases a b below =
-    in_order a.object b.object (nat_cmp a.object b.object) (int_cmp a.instant b.instant)
-    (ranked a.object b.object (nat_cmp a.object b.object) refl)
-    (earlier_instant a.instant b.instant (int_cmp a.instant b.instant) (int_ranked a.instant b.instant (int_cmp a.instant b.instant) refl))
-    below
+order_cases a b below = grind (arith, nat_tests)
 
 or_false : (b : Bool) → (b || false) ≡ b
 or_false true = refl
@@ -66,9 +48,7 @@ by_end p q b end up within behind = grind (arith, nat_tests)
 
 -- a greater number has the same quotient where it is below the next multiple
 quotient_by_end : (k a b : ℕ) → 0 < k → a ≤ b → (a / k == b / k) ≡ nat_lt b ((a / k + 1) * k)
-quotient_by_end k a b some up =
-    by_end (a / k) (b / k) b ((a / k + 1) * k) (div-le k a b some up)
-    (div-lt_iff_lt-mul some).1 (le-div (a / k + 1) b k some)
+quotient_by_end k a b some up = grind (arith, nat_tests, by_end, div-le, div-lt_iff_lt-mul, le-div)
 
 -- instants that are counted from the first on
 end_from_first : (first y : ℤ) (end : ℕ) → first ≤ℤ y →
@@ -92,24 +72,14 @@ module _ (first : ℤ) (period : ℕ) where
 
   -- a row that comes later in order is no earlier one
   not_earlier : (row other : Row) → row_order row other ≡ Less → is_earlier row other ≡ false
-  not_earlier row other below =
-      elim (order_cases row other below) [
-        | inl objects ↦ let differ : (other.object == row.object) ≡ false = grind (arith, nat_tests) in rw differ refl
-        | inr same ↦ let later : row.instant <ℤ other.instant = same.1 in
-            let not_before : lt_z other.instant row.instant ≡ false = grind (arith, ints) in rw not_before (and-false _)
-      ]
+  not_earlier row other below = grind (arith, nat_tests, ints)
 
   not_earlier_itself : (row : Row) → is_earlier row row ≡ false
   not_earlier_itself row = let not_before : lt_z row.instant row.instant ≡ false = grind (arith, ints) in rw not_before (and-false _)
 
   -- of two rows in order, the first is earlier in the other's block where they are of one block
   earlier_block : (a row : Row) → row_order a row ≡ Less → is_earlier row a ≡ is_same_block first period a row
-  earlier_block a row below =
-      elim (order_cases a row below) [
-        | inl objects ↦ let differ : (a.object == row.object) ≡ false = grind (arith, nat_tests) in rw differ refl
-        | inr same ↦ let later : a.instant <ℤ row.instant = same.1 in
-            let before : lt_z a.instant row.instant ≡ true = grind (arith, ints) in rw before (and-true _)
-      ]
+  earlier_block a row below = grind (arith, nat_tests, ints)
 
   -- of three rows in order, the second is of the block that the first and the third are of
   block_between : (a b row : Row) → 0 < period → first ≤ℤ a.instant → row_order a b ≡ Less → row_order b row ≡ Less →
@@ -133,11 +103,7 @@ module _ (first : ℤ) (period : ℕ) where
       row_order row next ≡ Less →
       row_order before next ≡ Less → (b : Bool) → is_earlier next before ≡ b →
       (is_earlier next before || is_earlier next row) ≡ is_earlier next row
-  seen_at before row next some above below far true is =
-      let same : is_same_block first period before next ≡ true = sym (earlier_block before next far) ∙ is in
-      let also : is_earlier next row ≡ true =
-      earlier_block row next below ∙ block_between before row next some above.1 above.0 below same in
-      rw (is, also) refl
+  seen_at before row next some above below far true is = grind (arith, nat_tests, earlier_block, block_between)
   seen_at before row next some above below far false is = rw is refl
 
   -- whether the row before, if there was one, shows that a row is not an anchor
@@ -157,9 +123,7 @@ module _ (first : ℤ) (period : ℕ) where
   seen_more : (before : Option Row) (row next : Row) → 0 < period → IsAbove before row → row_order row next ≡ Less →
       (seen before next || is_earlier next row) ≡ is_earlier next row
   seen_more None row next some above below = refl
-  seen_more (Some before) row next some above below =
-      let far : row_order before next ≡ Less = row_order_total.trans before row next above.0 below in
-      seen_at before row next some above below far (is_earlier next before) refl
+  seen_more (Some before) row next some above below = grind (arith, nat_tests, row_order_total, seen_at)
 
   above_next : (before : Option Row) (row next : Row) → IsAbove before row → row_order row next ≡ Less → IsAbove before next
   above_next None row next above below = tt
@@ -167,11 +131,7 @@ module _ (first : ℤ) (period : ℕ) where
 
   ShowsAll-push : (front : List Row) (before : Option Row) (row : Row) → 0 < period → IsAbove before row → ShowsAll front before →
       ShowsAll (front ++ row ∷ []) (Some row)
-  ShowsAll-push front before row some above shows next below =
-      let parts : list_any (is_earlier next) (front ++ row ∷ []) ≡ (list_any (is_earlier next) front || list_any (is_earlier next) (row ∷ [])) =
-      list_any-append (is_earlier next) front (row ∷ []) in
-      let so_far : list_any (is_earlier next) front ≡ seen before next = shows next (above_next before row next above below.0) in
-      rw (parts, so_far, or_false (is_earlier next row)) (seen_more before row next some above below.0)
+  ShowsAll-push front before row some above shows next below = grind (arith, nat_tests, list_any-append, above_next, or_false, seen_more)
 
   -- no later row shows that a row is not an anchor
   none_later : (row : Row) (rest : List Row) → AllByRecursion (λ y. row_order row y ≡ Less) rest →
@@ -182,11 +142,7 @@ module _ (first : ℤ) (period : ℕ) where
   -- a row is an anchor where the row before it does not show that it is none
   is_anchor-seen : (front rest : List Row) (before : Option Row) (row : Row) → ShowsAll front before → IsAbove before row →
       AllByRecursion (λ y. row_order row y ≡ Less) rest → is_anchor first period (front ++ row ∷ rest) row ≡ not (seen before row)
-  is_anchor-seen front rest before row shows above all =
-      let parts : list_any (is_earlier row) (front ++ row ∷ rest) ≡ (list_any (is_earlier row) front || list_any (is_earlier row) (row ∷ rest)) =
-      list_any-append (is_earlier row) front (row ∷ rest) in
-      let behind : list_any (is_earlier row) (row ∷ rest) ≡ false = rw (not_earlier_itself row, none_later row rest all) refl in
-      ap not (rw (parts, shows row above, behind) (or_false (seen before row)))
+  is_anchor-seen front rest before row shows above all = grind (arith, nat_tests, list_any-append, not_earlier_itself, none_later, or_false)
 
   -- a row is in the period of an earlier one where it comes before its end
   same_by_end : (a row : Row) → 0 < period → (row_order a row ≡ Less) × (first ≤ℤ a.instant) →
@@ -204,11 +160,7 @@ module _ (first : ℤ) (period : ℕ) where
   -- rows of one block are so by the same object and the same end
   same_block : (a row : Row) → is_same_block first period a row ≡ true →
       block_of_row first period a ≡ block_of_row first period row
-  same_block a row same =
-      let parts = and_parts (a.object == row.object) (period_of first period a == period_of first period row) same in
-      let objects : a.object ≡ row.object = grind (arith, nat_tests, parts.0) in
-      let periods : period_of first period a ≡ period_of first period row = grind (arith, nat_tests, parts.1) in
-      rw (objects, periods) refl
+  same_block a row same = grind arith
 
   -- the row before shows this if and only if it is of the same block
   seen-block : (before : Option Row) (row : Row) → 0 < period → IsAbove before row →
@@ -243,11 +195,7 @@ module _ (first : ℤ) (period : ℕ) where
       (again ≡ true → is_same_block first period a row ≡ true) →
       terminals span (Some (block_of_row first period a)) (row ∷ rest)
       ≡ (if again then 0 else log_length first span period row) + terminals span (Some (block_of_row first period row)) rest
-  terminals-at span a row rest true is same =
-      let alike : terminals span (Some (block_of_row first period a)) rest
-      ≡ terminals span (Some (block_of_row first period row)) rest =
-      ap (λ block. terminals span (Some block) rest) (same_block a row (same refl)) in
-      terminals-cons span (Some (block_of_row first period a)) row rest ∙ rw is (omega arith)
+  terminals-at span a row rest true is same = grind (arith, nat_tests, same_block, terminals-cons)
   terminals-at span a row rest false is same =
       terminals-cons span (Some (block_of_row first period a)) row rest ∙ rw is refl
 
@@ -256,9 +204,7 @@ module _ (first : ℤ) (period : ℕ) where
       ≡ (if is_block_of (option_map (block_of_row first period) before) row then 0 else log_length first span period row)
       + terminals span (Some (block_of_row first period row)) rest
   terminals-step span None row rest some above = terminals-cons span None row rest
-  terminals-step span (Some a) row rest some above =
-      terminals-at span a row rest (is_block_of (Some (block_of_row first period a)) row) refl
-      (λ is. same_by_end a row some above ∙ is)
+  terminals-step span (Some a) row rest some above = grind (arith, nat_tests, terminals-at, same_by_end)
 
   above_all : (row : Row) (rest : List Row) → first ≤ℤ row.instant → AllByRecursion (λ y. row_order row y ≡ Less) rest →
       AllByRecursion (IsAbove (Some row)) rest
@@ -304,12 +250,7 @@ module _ (first : ℤ) (period : ℕ) where
   -- a row is of its own block
   own_block : (row : Row) → 0 < period → first ≤ℤ row.instant →
       is_of_block (block_of_row first period row) row ≡ true
-  own_block row some behind =
-      let objects : (row.object == row.object) ≡ true = eq-eqb row.object row.object refl in
-      let number : ℕ = period_of first period row in
-      let counted : nat_lt (elapsed first row) (period_end first period row) ≡ true =
-      sym (quotient_by_end period (elapsed first row) (elapsed first row) some (omega arith)) ∙ eq-eqb number number refl in
-      rw objects (sym (end_from_first first row.instant (period_end first period row) behind) ∙ counted)
+  own_block row some behind = grind (arith, nat_tests)
 
   -- a block's row is passed over, and any other row begins another block
   terminals-after_one : (span : ℕ) (block : Block) (row : Row) (rest : List Row) (again : Bool) →

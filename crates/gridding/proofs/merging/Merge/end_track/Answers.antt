@@ -6,8 +6,7 @@ use Rattle.std.proofs.lemmas.List.{take_all}
 use Rattle.std.proofs.lemmas.List.Sorted.{answers_always}
 use Rattle.gridding.proofs.MergeLemmas.{alike-before, alike-track, is_earlier, is_same_instant, no_place, order-append, placed-more, rising-track}
 use Rattle.track_types.specs.declared.row.Row.{Row}
-use Rattle.gridding.specs.PackedPlace.{packed_row}
-use Rattle.gridding.specs.PackedPlace.{elapsed_of}
+use Rattle.gridding.specs.PackedPlace.{packed_row, elapsed_of}
 use Rattle.gridding.specs.declared.packed_place.PackedPlace.{PackedPlace}
 use Rattle.gridding.proofs.merging.Merge.end_track.Goals.{After-clear}
 use Rattle.gridding.proofs.merging.Merge.end_track.Goals as goal

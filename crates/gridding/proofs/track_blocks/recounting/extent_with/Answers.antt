@@ -1,7 +1,6 @@
-use Rattle.std.proofs.Common.{◌∙◌, ap}
+use Rattle.std.proofs.Common.{◌∙◌}
 use Rattle.gridding.proofs.MergeLemmas.{no_place}
 use Rattle.gridding.proofs.RecountingLemmas.{IsExtentWithin-widened, extent-place, within_word}
-use Rattle.track_types.specs.Extents.{widened}
 use Rattle.gridding.proofs.track_blocks.recounting.extent_with.Goals as goal
 
 pub loop-place-preserved : goal.loop-place-preserved
