@@ -166,7 +166,7 @@ impl Stores {
     pub fn frame(&self) -> &Frame
         ensures value { result.now ≡ self.now.frame }
         ensures shaped { IsShaped self.now }
-        ensures sound { IsSound self.now }
+        ensures valid { IsValid self.now }
     {
         &self.frame
     }
@@ -206,6 +206,7 @@ impl Stores {
     /// The period of an instant, and none if and only if the instant is outside the header's span.
     pub fn period_of(&self, instant: i64) -> Option<u32>
         ensures value { result ≡ period_in self.now.frame instant }
+        ensures valid { IsValid self.now }
     {
         self.frame.timeline().period_of(instant)
     }
