@@ -1,4 +1,4 @@
-use Rattle.std.proofs.Common.{◌≡◌, ◌+◌, ◌*◌, ◌≤◌, List, length, ℕ, ℤ, ◌+ℤ◌, w64, to_z, of_z, arith, ap, sym, subst, ◌∙◌}
+use Rattle.std.proofs.Common.{◌≡◌, ◌+◌, ◌*◌, ◌≤◌, List, length, ℕ, ℤ, ◌+ℤ◌, w64, to_z, of_z, arith, ap, sym, subst, ◌∙◌, rules}
 use Rattle.std.proofs.lemmas.Int.{ints}
 use Rattle.track_types.specs.declared.cell.Cell.{Cell}
 use Rattle.track_types.specs.declared.frame.Frame.{Frame}
@@ -8,7 +8,6 @@ use Rattle.rule_store.specs.Log.{log_of}
 use Rattle.rule_store.specs.View.{RulesView}
 use Rattle.log_cursor.specs.Start.{start_at, IsPlaced}
 use Rattle.snapshots.specs.Parts.{anchored_at, log_in, rules_in}
-use Rattle.snapshots.specs.SoundParts.{IsValid}
 use Rattle.snapshots.proofs.LogsLemmas.{log_of-is}
 use Rattle.object_track.proofs.BlockLemmas.{log-within, IsPlaced-block}
 use Rattle.object_track.proofs.placing.Placed.new.Goals as goal
@@ -16,11 +15,9 @@ use Rattle.object_track.proofs.placing.Placed.new.Goals as goal
 pub block-log-requires : goal.block-log-requires
 block-log-requires c =
     let parts : Parts = c.args.stores.now in
-    let valid : IsValid parts =
-    record { shaped = c.frame-frame.ensures.shaped; sound = c.frame-frame.ensures.sound } in
     subst (λ (rules : RulesView). c.args.block.now.from + c.args.block.now.len ≤ length rules.symbols)
     (sym c.rules.ensures.value)
-    (log-within parts valid c.args.period c.requires.period c.args.block.now c.requires.block)
+    (log-within parts c.frame-frame.ensures.valid c.args.period c.requires.period c.args.block.now c.requires.block)
 
 -- the anchor's instant, as it is added up
 abbrev instant-of : goal.After-block-log → ℤ
@@ -56,8 +53,6 @@ returns-clause-start c = ap (λ z. start_at z c.args.block.now.cell) (instant-is
 pub returns-clause-placed : goal.returns-clause-placed
 returns-clause-placed c =
     let parts : Parts = c.args.stores.now in
-    let valid : IsValid parts =
-    record { shaped = c.frame-frame.ensures.shaped; sound = c.frame-frame.ensures.sound } in
     let rules : c.block-log.result.rules.now ≡ rules_in parts = c.block-log.ensures.rules ∙ c.rules.ensures.value in
     let log : log_of c.block-log.result ≡ log_in parts c.args.block.now =
     log_of-is c.block-log.result (rules_in parts) c.args.block.now rules c.block-log.ensures.from
@@ -66,4 +61,7 @@ returns-clause-placed c =
     subst (λ (symbols : List ℕ). IsPlaced c.block-log.result.rules.now (start_at (instant-of c) cell) symbols) (sym log)
     (subst (λ (r : RulesView). IsPlaced r (start_at (instant-of c) cell) (log_in parts c.args.block.now)) (sym rules)
     (subst (λ z. IsPlaced (rules_in parts) (start_at z cell) (log_in parts c.args.block.now)) (sym (instant-is c))
-    (IsPlaced-block parts valid c.args.period c.requires.period c.args.block.now c.requires.block)))
+    (IsPlaced-block parts c.frame-frame.ensures.valid c.args.period c.requires.period c.args.block.now c.requires.block)))
+
+pub overflow_add-start : goal.overflow_add-start
+overflow_add-start c = search rules
