@@ -34,7 +34,6 @@ pub fn slice<L: Reads>(
         found.items ≡ sightings_of (chart_in stores.now).rows instant test.now.region) }
     ensures cost { steps.new ≤ steps.old + slice_cost stores.now instant test.now.region }
 {
-    let _ = stores.frame(); // says what holds of every index
     let Some(period) = stores.period_of(instant) else {
         return Ok(Vec::new(alloc));
     };

@@ -4,7 +4,6 @@ use Rattle.std.proofs.lemmas.List.Sorted.{IsNonDecreasingBy-from_sort_by_key}
 use Rattle.step_count.specs.Reads.{ofPeriod}
 use Rattle.track_types.specs.Frame.{periods_of}
 use Rattle.snapshots.specs.Parts.{period_in}
-use Rattle.snapshots.specs.SoundParts.{IsValid}
 use Rattle.snapshots.specs.Needs.{is_found}
 use Rattle.snapshots.proofs.NeedsLemmas.{is_found-same, within-period}
 use Rattle.object_track.proofs.MetLemmas.{period_in-some}
@@ -24,7 +23,7 @@ when g c = sym (c.in-Some.ensures.value ∙ ap (period_in c.args.stores.now.fram
 -- it is one of the index's
 within : (g : Over) (c : In-Some g) → c.in-Some.period < periods_of c.args.stores.now.frame
 within g c =
-    (period_in-some c.args.stores.now.frame c.frame.ensures.shaped.header c.args.instant c.in-Some.period (when g c)).0
+    (period_in-some c.args.stores.now.frame c.period_of.ensures.valid.shaped.header c.args.instant c.in-Some.period (when g c)).0
 
 pub invariant_of-sought : goal.invariant_of-sought
 invariant_of-sought g c = record { known = within g (goal.at.invariant_of-sought g c).In-Some }
@@ -64,7 +63,7 @@ reads g c =
       c.sightings.ensures.cost,
       c.blocks-blocks.ensures.cost,
       ap (λ z. period_search_cost parts c.in-Some.period z z region (latest_in parts.frame c.in-Some.period z)) same,
-      slice_cost-some parts c.frame.ensures.shaped.header c.args.instant region c.in-Some.period is,
+      slice_cost-some parts c.period_of.ensures.valid.shaped.header c.args.instant region c.in-Some.period is,
     )
 
 pub returns-in_err-found-clause-cost : goal.returns-in_err-found-clause-cost
@@ -76,17 +75,15 @@ returns-clause-cost g c = reads g (goal.at.returns-clause-cost g c).After-sighti
 pub returns-in_default-clause-ok : goal.returns-in_default-clause-ok
 returns-in_default-clause-ok g c =
     let parts = c.args.stores.now in
-    let valid : IsValid parts = record { shaped = c.frame.ensures.shaped; sound = c.frame.ensures.sound } in
     let same : to_z w64 (of_z w64 c.args.instant) ≡ c.args.instant = omega (arith, ints) in
     let none : None ≡ c.period_of.result = search rules in
-    c.new.ensures.items ∙ sightings_of-outside parts valid c.args.instant c.args.test.now.region
+    c.new.ensures.items ∙ sightings_of-outside parts c.period_of.ensures.valid c.args.instant c.args.test.now.region
     (sym (none ∙ c.period_of.ensures.value ∙ ap (period_in parts.frame) same))
 
 pub returns-clause-ok : goal.returns-clause-ok
 returns-clause-ok g c =
     let parts = c.args.stores.now in
     let region = c.args.test.now.region in
-    let valid : IsValid parts = record { shaped = c.frame.ensures.shaped; sound = c.frame.ensures.sound } in
     let at = (goal.at.returns-clause-ok g c).In-Some in
     let same : to_z w64 (of_z w64 c.args.instant) ≡ c.args.instant = omega (arith, ints) in
     let are : AreSightings parts c.in-Some.period (to_z w64 (of_z w64 c.args.instant)) region c.in_ok-found.found.items =
@@ -95,7 +92,7 @@ returns-clause-ok g c =
       their = c.in_ok-found.ensures.ok;
       sought = c.blocks-blocks.ensures.sought;
     } in
-    slice-sorted parts valid c.args.instant c.in-Some.period (within g at) region
+    slice-sorted parts c.period_of.ensures.valid c.args.instant c.in-Some.period (within g at) region
     c.in_ok-found.found.items c.sort_unstable_by_key.new.self.items (when g at)
     (subst (λ z. AreSightings parts c.in-Some.period z region c.in_ok-found.found.items) same are)
     c.sort_unstable_by_key.ensures.permutation

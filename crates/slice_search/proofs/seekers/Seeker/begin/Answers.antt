@@ -3,7 +3,6 @@ use Rattle.std.proofs.lemmas.Int.{ints}
 use Rattle.std.proofs.lemmas.Option.{get_or_from_slice_get}
 use Rattle.rule_store.specs.Log.{log_of}
 use Rattle.snapshots.specs.Parts.{rules_in, snapshot_in}
-use Rattle.snapshots.specs.SoundParts.{IsValid}
 use Rattle.object_track.proofs.BlockLemmas.{block-known}
 use Rattle.log_cursor.specs.Descent.{hit_of}
 use Rattle.slice_search.specs.Sightings.{seen_at}
@@ -18,8 +17,7 @@ use Rattle.slice_search.proofs.seekers.Seeker.begin.Goals as goal
 pub object_at-requires : goal.object_at-requires
 object_at-requires g c =
     let sought = c.args.sought.now in
-    let valid : IsValid sought.stores.now = record { shaped = c.frame.ensures.shaped; sound = c.frame.ensures.sound } in
-    block-known sought.stores.now valid sought.period sought.known c.args.block.now c.requires.block
+    block-known sought.stores.now c.frame.ensures.valid sought.period sought.known c.args.block.now c.requires.block
 
 pub begin-requires-clause-first : goal.begin-requires-clause-first
 begin-requires-clause-first g c =
@@ -70,12 +68,11 @@ returns-clause-opens g c =
     let sought = c.args.sought.now in
     let parts = sought.stores.now in
     let region = sought.test.now.region in
-    let valid : IsValid parts = record { shaped = c.frame.ensures.shaped; sound = c.frame.ensures.sound } in
     let placed = c.new.ensures in
     let kept : word sought.from ≡ sought.from = omega (arith, ints) in
     let opens = rw (placed.rules, kept) at c.begin.ensures.opens in
     let found = rw placed.rules at (touching_rule-found parts sought.period sought.from sought.from sought.from sought.from
     refl refl region c.args.block.now c.new.result.log.rules.now (log_of c.new.result.log) c.new.result.start
     placed.rules placed.log placed.start) in
-    λ rule is. block_rule-within parts valid sought.period sought.known sought.from sought.from region c.args.block.now
+    λ rule is. block_rule-within parts c.frame.ensures.valid sought.period sought.known sought.from sought.from region c.args.block.now
     c.requires.block rule (found rule (opens rule is))

@@ -5,7 +5,6 @@ use Rattle.track_types.specs.declared.cell_box.CellBox.{CellBox}
 use Rattle.track_types.specs.declared.frame.Frame.{Frame}
 use Rattle.k2_tree.specs.Pruning.{square_count}
 use Rattle.snapshots.specs.Parts.{rules_in, snapshot_in}
-use Rattle.snapshots.specs.SoundParts.{IsValid}
 use Rattle.snapshots.specs.Tracks.{blocks_by_leaf, cell_box, may_hold}
 use Rattle.snapshots.specs.View.{all_blocks, tree_in}
 use Rattle.snapshots.specs.declared.anchored.Anchored.{Anchored}
@@ -60,22 +59,21 @@ pub returns-clause-sought : goal.returns-clause-sought
 returns-clause-sought g c =
     let self = c.args.self.now in
     let at = (goal.at.returns-clause-sought g c).After-new-reach in
-    let valid : IsValid self.stores.now = record { shaped = c.frame.ensures.shaped; sound = c.frame.ensures.sound } in
     let view = snapshot_in self.stores.now self.period in
-    AreSought-made self.stores.now valid self.period self.known self.from self.to self.test.now.region _
-    (blocks_by_leaf view) (left_is g at _ c.tracks.ensures.left) c.tracks.ensures.weights (within-reach self.stores.now valid)
-    c.tracks.ensures.on_tracks (All-all_blocks view (IsSnapshot-valid self.stores.now valid self.period self.known))
+    AreSought-made self.stores.now c.frame.ensures.valid self.period self.known self.from self.to self.test.now.region _
+    (blocks_by_leaf view) (left_is g at _ c.tracks.ensures.left) c.tracks.ensures.weights
+    (within-reach self.stores.now c.frame.ensures.valid) c.tracks.ensures.on_tracks
+    (All-all_blocks view (IsSnapshot-valid self.stores.now c.frame.ensures.valid self.period self.known))
     c.tracks.ensures.blocks
 
 pub returns-clause-cost : goal.returns-clause-cost
 returns-clause-cost g c =
     let self = c.args.self.now in
     let at = (goal.at.returns-clause-cost g c).After-new-reach in
-    let valid : IsValid self.stores.now = record { shaped = c.frame.ensures.shaped; sound = c.frame.ensures.sound } in
     let view = snapshot_in self.stores.now self.period in
     let kept : CellBox → Bool = may_reach_in self.stores.now self.period
     (latest_in self.stores.now.frame self.period self.to) self.test.now.region in
-    sought-cost self.stores.now valid self.period self.known self.from self.to self.test.now.region _
+    sought-cost self.stores.now c.frame.ensures.valid self.period self.known self.from self.to self.test.now.region _
     (blocks_by_leaf view) (left_is g at _ c.tracks.ensures.left) c.tracks.ensures.weights _
     (omega (
       arith,

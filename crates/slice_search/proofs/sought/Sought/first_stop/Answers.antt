@@ -1,6 +1,5 @@
 use Rattle.std.proofs.Common.{◌≡◌, w64, to_z, of_z, ◌∙◌, sym, arith}
 use Rattle.std.proofs.lemmas.Int.{ints}
-use Rattle.snapshots.specs.SoundParts.{IsValid}
 use Rattle.object_track.proofs.BlockLemmas.{block-known}
 use Rattle.rule_store.specs.Log.{log_of}
 use Rattle.slice_search.specs.Needs.{period_rule}
@@ -24,8 +23,7 @@ returns-clause-value g c =
 pub returns-clause-object : goal.returns-clause-object
 returns-clause-object g c =
     let self = c.args.self.now in
-    let valid : IsValid self.stores.now = record { shaped = c.frame.ensures.shaped; sound = c.frame.ensures.sound } in
-    block-known self.stores.now valid self.period self.known c.args.block.now c.requires.block
+    block-known self.stores.now c.frame.ensures.valid self.period self.known c.args.block.now c.requires.block
 
 pub returns-clause-cost : goal.returns-clause-cost
 returns-clause-cost g c =
@@ -44,7 +42,6 @@ first_hit_with-requires-clause-rules g c = c.new-placed.ensures.rules ∙ sym c.
 pub first_hit_with-requires-clause-may : goal.first_hit_with-requires-clause-may
 first_hit_with-requires-clause-may g c =
     let self = c.args.self.now in
-    let valid : IsValid self.stores.now = record { shaped = c.frame.ensures.shaped; sound = c.frame.ensures.sound } in
     let view = snapshot_in self.stores.now self.period in
     let region = self.test.now.region in
     let block = c.args.block.now in
@@ -56,5 +53,5 @@ first_hit_with-requires-clause-may g c =
     (log_of log) c.new-placed.result.start placed.rules placed.log placed.start in
     λ read needed. c.requires.may read (block-within view block c.requires.block (places_of log) placed.places _
     (period_rule self.stores.now self.period self.from self.to region)
-    (λ rule is. block_rule-within self.stores.now valid self.period self.known self.from self.to region block
+    (λ rule is. block_rule-within self.stores.now c.frame.ensures.valid self.period self.known self.from self.to region block
     c.requires.block rule (found rule is)) read needed)
