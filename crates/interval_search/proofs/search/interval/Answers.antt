@@ -1,20 +1,14 @@
-use Rattle.std.proofs.Common.{◌≡◌, ◌∙◌, ℕ, ℤ, List, Bool, IsTrue, false, true, length, w64, to_z, of_z, arith, ap}
-use Rattle.std.proofs.Common.{sym, subst}
-use Rattle.std.specs.Prelude.{replicate}
+use Rattle.std.proofs.Common.{◌≡◌, ◌∙◌, ℕ, ℤ, List, Bool, IsTrue, false, w64, to_z, of_z, arith}
+use Rattle.std.proofs.Common.{subst}
 use Rattle.std.proofs.lemmas.Int.{ints}
 use Rattle.step_count.specs.Reads.{ofPeriod}
-use Rattle.track_types.specs.ByFilter.{hits_of}
-use Rattle.track_types.specs.declared.frame.Frame.{Frame}
 use Rattle.track_types.specs.declared.hit.Hit.{Hit}
 use Rattle.track_types.specs.declared.region.Region.{Region}
 use Rattle.track_types.specs.Region.{intersects_region}
 use Rattle.snapshots.proofs.NeedsLemmas.{within-period}
 use Rattle.snapshots.specs.IndexCost.{is_met}
-use Rattle.snapshots.specs.Parts.{chart_in}
-use Rattle.snapshots.specs.SoundParts.{IsValid}
 use Rattle.track_types.specs.Frame.{grid_of}
 use Rattle.slice_search.proofs.NeedsLemmas.{may-search}
-use Rattle.interval_search.specs.Cost.{interval_cost}
 use Rattle.interval_search.specs.FirstHits.{AreFirst}
 use Rattle.interval_search.proofs.CostLemmas.{cost-met, cost-step}
 use Rattle.interval_search.proofs.OrderLemmas.{first-at, hits-beside, hits-met}
@@ -26,10 +20,9 @@ pub returns-then-not-meets_grid-clause-ok : goal.returns-then-not-meets_grid-cla
 returns-then-not-meets_grid-clause-ok g c =
     let parts = c.args.stores.now in
     let region : Region = c.args.test.now.region in
-    let valid : IsValid parts = record { shaped = c.frame.ensures.shaped; sound = c.frame.ensures.sound } in
     let beside : intersects_region region (grid_of parts.frame) ≡ false =
     grind (arith, c.meets_grid.ensures, c.if-not-meets_grid.true) in
-    c.new.ensures.items ∙ hits-beside parts valid c.args.from c.args.to region beside
+    c.new.ensures.items ∙ hits-beside parts c.frame.ensures.valid c.args.from c.args.to region beside
 
 pub loop-period-init : goal.loop-period-init
 loop-period-init g c =
@@ -37,17 +30,13 @@ loop-period-init g c =
     let region : Region = c.args.test.now.region in
     let low : ℤ = to_z w64 (of_z w64 c.args.from) in
     let high : ℤ = to_z w64 (of_z w64 c.args.to) in
-    let valid : IsValid parts = record { shaped = c.frame.ensures.shaped; sound = c.frame.ensures.sound } in
     let next : ℕ = c.met-periods.result.next in
-    let begins = first-at parts valid low high region next c.met-periods.result.end c.met-periods.ensures in
+    let begins = first-at parts c.frame.ensures.valid low high region next c.met-periods.result.end c.met-periods.ensures in
     record {
       least = omega arith;
       most = c.met-periods.ensures.ordered;
       rules = c.in_ok-pending.ensures.rules ∙ c.rules.ensures.value;
-      first = subst (λ known. AreFirst parts low high region next known c.in_ok-hits.hits.found.items)
-          (sym (c.in_ok-hits.ensures.known ∙ ap (λ n. replicate n false) c.objects.ensures.value))
-          (subst (λ found. AreFirst parts low high region next (replicate (length parts.objects) false) found)
-          (sym c.in_ok-hits.ensures.found) begins);
+      first = rw (c.in_ok-hits.ensures.known, c.objects.ensures.value, c.in_ok-hits.ensures.found) begins;
       reads = omega (arith, cost-met parts low high region next c.met-periods.result.end c.met-periods.ensures);
     }
 
@@ -60,15 +49,10 @@ look-requires-clause-first g c = c.loop-period.invariant.first
 -- the period is met by the window
 met : (g : Over) (c : After-blocks-blocks g) → IsTrue (is_met c.args.stores.now.frame c.args.from c.args.to c.loop-period.period)
 met g c =
-    let frame : Frame = c.args.stores.now.frame in
-    let low : ℤ = to_z w64 (of_z w64 c.args.from) in
-    let high : ℤ = to_z w64 (of_z w64 c.args.to) in
-    let from : low ≡ c.args.from = omega (arith, ints) in
-    let to : high ≡ c.args.to = omega (arith, ints) in
-    let met : is_met frame low high c.loop-period.period ≡ true =
-    c.met-periods.ensures.met c.loop-period.period c.loop-period.invariant.least (omega (arith, c.loop-period-test.true)) in
-    subst (λ z. is_met frame c.args.from z c.loop-period.period ≡ true) to
-    (subst (λ z. is_met frame z high c.loop-period.period ≡ true) from met)
+    let from : to_z w64 (of_z w64 c.args.from) ≡ c.args.from = omega (arith, ints) in
+    let to : to_z w64 (of_z w64 c.args.to) ≡ c.args.to = omega (arith, ints) in
+    rw (from, to) at
+    (c.met-periods.ensures.met c.loop-period.period c.loop-period.invariant.least (omega (arith, c.loop-period-test.true)))
 
 pub look-requires-clause-may : goal.look-requires-clause-may
 look-requires-clause-may g c = λ read needed.
@@ -116,15 +100,13 @@ returns-in_err-look-clause-cost g c =
     let from : low ≡ c.args.from = omega (arith, ints) in
     let to : high ≡ c.args.to = omega (arith, ints) in
     let behind : ℕ = c.met-periods.result.end in
-    omega (
+    rw (← from, ← to) (omega (
       arith,
       c.loop-period.invariant.reads,
       c.look.ensures.cost,
       c.blocks-blocks.ensures.cost,
       cost-step parts low high region c.loop-period.period behind (omega (arith, c.loop-period-test.true)),
-      ap (λ z. interval_cost parts z high region) from,
-      ap (λ z. interval_cost parts c.args.from z region) to,
-    )
+    ))
 
 pub returns-clause-ok : goal.returns-clause-ok
 returns-clause-ok g c =
@@ -132,31 +114,20 @@ returns-clause-ok g c =
     let region : Region = c.args.test.now.region in
     let low : ℤ = to_z w64 (of_z w64 c.args.from) in
     let high : ℤ = to_z w64 (of_z w64 c.args.to) in
-    let valid : IsValid parts = record { shaped = c.frame.ensures.shaped; sound = c.frame.ensures.sound } in
     let from : low ≡ c.args.from = omega (arith, ints) in
     let to : high ≡ c.args.to = omega (arith, ints) in
     let behind : ℕ = c.met-periods.result.end in
     let done : c.loop-period.period ≡ behind = omega (arith, c.loop-period.invariant.most, c.loop-period-test.false) in
     let known : List Bool = c.loop-period.hits.known.items in
     let found : List Hit = c.loop-period.hits.found.items in
-    hits-met parts valid low high region c.met-periods.result.next behind c.met-periods.ensures known found
+    rw (← from, ← to)
+    (hits-met parts c.frame.ensures.valid low high region c.met-periods.result.next behind c.met-periods.ensures known found
     c.in_order.result.items
     (subst (λ n. AreFirst parts low high region n known found) done c.loop-period.invariant.first)
-    c.in_order.ensures.same c.in_order.ensures.order
-    ∙ ap (λ z. hits_of (chart_in parts).rows z high region) from
-    ∙ ap (λ z. hits_of (chart_in parts).rows c.args.from z region) to
+    c.in_order.ensures.same c.in_order.ensures.order)
 
 pub returns-clause-cost : goal.returns-clause-cost
 returns-clause-cost g c =
-    let parts = c.args.stores.now in
-    let region : Region = c.args.test.now.region in
-    let low : ℤ = to_z w64 (of_z w64 c.args.from) in
-    let high : ℤ = to_z w64 (of_z w64 c.args.to) in
-    let from : low ≡ c.args.from = omega (arith, ints) in
-    let to : high ≡ c.args.to = omega (arith, ints) in
-    omega (
-      arith,
-      c.loop-period.invariant.reads,
-      ap (λ z. interval_cost parts z high region) from,
-      ap (λ z. interval_cost parts c.args.from z region) to,
-    )
+    let from : to_z w64 (of_z w64 c.args.from) ≡ c.args.from = omega (arith, ints) in
+    let to : to_z w64 (of_z w64 c.args.to) ≡ c.args.to = omega (arith, ints) in
+    rw (← from, ← to) (omega (arith, c.loop-period.invariant.reads))

@@ -1,8 +1,6 @@
-use Rattle.std.proofs.Common.{◌≡◌, ◌<◌, ◌++◌, ◌∷◌, List, Bool, true, false, length, ap, subst, sym, refl, ◌∙◌}
+use Rattle.std.proofs.Common.{◌≡◌, ◌<◌, ◌∷◌, List, Bool, true, false, length, ap, refl, ◌∙◌}
 use Rattle.std.proofs.Common.{arith, rules, vec_len}
-use Rattle.std.specs.Prelude.{option_map, slice_index}
 use Rattle.std.specs.List.{sum_by}
-use Rattle.std.specs.Option.{option_to_list}
 use Rattle.std.proofs.lemmas.List.{get_or_default}
 use Rattle.std.proofs.lemmas.List.Elements.{All-head}
 use Rattle.std.proofs.lemmas.List.Sums.{sum_by-cons}
@@ -12,7 +10,7 @@ use Rattle.snapshots.specs.Sound.{IsBlock}
 use Rattle.snapshots.specs.SoundParts.{IsValid}
 use Rattle.snapshots.specs.declared.anchored.Anchored.{Anchored}
 use Rattle.slice_search.specs.Sought.{first_stop_in, log_reads}
-use Rattle.interval_search.specs.FirstHits.{hit_at, is_known, IsLooking}
+use Rattle.interval_search.specs.FirstHits.{is_known, IsLooking}
 use Rattle.interval_search.proofs.FirstLemmas.{looking-begins, looking-ends, looking-into, looking-skips, next-within}
 use Rattle.interval_search.proofs.first_hits.FirstHits.look.Given.{Over}
 use Rattle.interval_search.proofs.first_hits.FirstHits.look.Goals as goal
@@ -21,11 +19,10 @@ use Rattle.interval_search.proofs.first_hits.FirstHits.look.Goals.{In-Some}
 pub loop-block-init : goal.loop-block-init
 loop-block-init g c =
     let sought = c.args.sought.now in
-    let valid : IsValid sought.stores.now = record { shaped = c.frame.ensures.shaped; sound = c.frame.ensures.sound } in
     record {
-      looking = looking-begins sought.stores.now sought.from sought.to sought.test.now.region valid sought.period sought.known
-          (g.W.Lazy.left c.args.blocks.now) c.args.self.now.known.items c.args.self.now.found.items c.requires.first
-          c.requires.blocks;
+      looking = looking-begins sought.stores.now sought.from sought.to sought.test.now.region c.frame.ensures.valid
+          sought.period sought.known (g.W.Lazy.left c.args.blocks.now) c.args.self.now.known.items
+          c.args.self.now.found.items c.requires.first c.requires.blocks;
       rules = c.requires.rules;
       may = c.requires.may;
       reads = omega arith;
@@ -33,16 +30,13 @@ loop-block-init g c =
 
 module _ (g : Over) (c : In-Some g) where
   valid : IsValid c.args.sought.now.stores.now
-  valid = record { shaped = c.frame.ensures.shaped; sound = c.frame.ensures.sound }
+  valid = c.frame.ensures.valid
 
   -- the next block is in front of those that are left
   looking : IsLooking c.args.sought.now.stores.now c.args.sought.now.from c.args.sought.now.to
       c.args.sought.now.test.now.region c.args.sought.now.period (c.in-Some.block ∷ g.W.Lazy.left c.draw.new.self)
       c.loop-block.self.known.items c.loop-block.self.found.items
-  looking =
-      let sought = c.args.sought.now in
-      subst (λ blocks. IsLooking sought.stores.now sought.from sought.to sought.test.now.region sought.period blocks
-      c.loop-block.self.known.items c.loop-block.self.found.items) c.in-Some.ensures.found c.loop-block.invariant.looking
+  looking = rw c.in-Some.ensures.found at c.loop-block.invariant.looking
 
   inside : c.in-Some.block.index < length c.loop-block.self.known.items
   inside =
@@ -85,12 +79,7 @@ loop-block-preserved-in-Continue-1 g c =
     let next =
     sum_by-cons (log_reads sought.stores.now sought.period sought.from sought.to sought.test.now.region) block left in
     record {
-      looking = subst (λ items. IsLooking sought.stores.now sought.from sought.to sought.test.now.region sought.period left
-          c.look_into.new.self.known.items items) (sym c.in_ok-look_into.ensures.found)
-          (subst (λ items. IsLooking sought.stores.now sought.from sought.to sought.test.now.region sought.period left
-          items (found ++ option_to_list (option_map (hit_at (slice_index sought.stores.now.objects block.index))
-          (first_stop_in sought.stores.now sought.period sought.from sought.to sought.test.now.region block))))
-          (sym c.in_ok-look_into.ensures.known) into);
+      looking = rw (c.in_ok-look_into.ensures.found, c.in_ok-look_into.ensures.known) into;
       rules = c.look_into.ensures.rules ∙ c.loop-block.invariant.rules;
       may = λ read needed. c.loop-block.invariant.may read (c.in-Some.ensures.needs read needed);
       reads = omega (
@@ -128,8 +117,6 @@ loop-block-preserved g c =
 pub returns-clause-first : goal.returns-clause-first
 returns-clause-first g c =
     let sought = c.args.sought.now in
-    let valid : IsValid sought.stores.now = record { shaped = c.frame.ensures.shaped; sound = c.frame.ensures.sound } in
-    looking-ends sought.stores.now sought.from sought.to sought.test.now.region valid sought.period sought.known
+    looking-ends sought.stores.now sought.from sought.to sought.test.now.region c.frame.ensures.valid sought.period sought.known
     c.loop-block.self.known.items c.loop-block.self.found.items
-    (subst (λ blocks. IsLooking sought.stores.now sought.from sought.to sought.test.now.region sought.period blocks
-    c.loop-block.self.known.items c.loop-block.self.found.items) c.in_default.ensures.none c.loop-block.invariant.looking)
+    (rw c.in_default.ensures.none at c.loop-block.invariant.looking)
