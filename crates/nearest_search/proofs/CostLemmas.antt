@@ -1,18 +1,15 @@
 -- What a search reads.
-use Rattle.std.proofs.Common.{◌≡◌, ℕ, ◌+◌, ◌*◌, ◌<◌, ◌≤◌, Bool, true, List, length, map, filter, All, Some, refl, sym, ◌∙◌, ap, arith}
+use Rattle.std.proofs.Common.{◌≡◌, ℕ, ◌+◌, ◌*◌, ◌≤◌, Bool, true, List, filter, All, Some, sym, ◌∙◌, ap, arith}
 use Rattle.std.proofs.Common.{mul-le-mul_right}
-use Rattle.std.specs.Prelude.{slice_index, if◌then◌else◌}
+use Rattle.std.specs.Prelude.{if◌then◌else◌}
 use Rattle.std.specs.List.{sum_by}
 use Rattle.list_laws.proofs.FilterLemmas.{filter-all, sum_by-filter, sum_by_if}
 use Rattle.list_laws.proofs.FlatLemmas.{sum_by-map}
 use Rattle.list_laws.proofs.SumLemmas.{sum_by-each}
 use Rattle.track_types.specs.declared.cell_box.CellBox.{CellBox}
-use Rattle.k2_tree.specs.Areas.{area_at}
-use Rattle.k2_tree.specs.Squares.{Node, node}
 use Rattle.box_tree.specs.Cost.{place_reads, opened_square_reads}
 use Rattle.box_tree.specs.Places.{all_places, cell_passes, place_worth, held_square_count}
 use Rattle.box_tree.specs.Tree.{TreeView}
-use Rattle.rule_store.specs.View.{RulesView}
 use Rattle.snapshots.specs.Cost.{block_reads, record_reads}
 use Rattle.snapshots.specs.Cost.{square_reads}
 use Rattle.snapshots.specs.IndexCost.{seek_cost}

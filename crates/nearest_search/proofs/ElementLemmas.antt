@@ -1,5 +1,5 @@
 -- What waits is no nearer than its key, and its key is no less than the distance to the reach of its square.
-use Rattle.std.proofs.Common.{◌≡◌, ℕ, ◌+◌, ◌-◌, ◌^◌, ◌<◌, ◌≤◌, ℤ, pos, ◌+ℤ◌, Bool, true, List, []}
+use Rattle.std.proofs.Common.{◌≡◌, ℕ, ◌^◌, ◌<◌, ◌≤◌, ℤ, pos, ◌+ℤ◌, Bool, true, List, []}
 use Rattle.std.proofs.Common.{length, filter, All, Option, None, Some, get_or, max, refl, sym, subst, ◌∙◌, ap, arith, inl, inr}
 use Rattle.std.specs.Prelude.{IfSome, nat_le, slice_index}
 use Rattle.std.specs.Int.{int_max, int_min}

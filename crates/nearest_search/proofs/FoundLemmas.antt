@@ -1,12 +1,12 @@
 -- How near the objects of a period's blocks are, and how near the rows of an instant.
-use Rattle.std.proofs.Common.{◌≡◌, ℕ, suc, ◌+◌, ◌^◌, ◌<◌, ◌≤◌, ℤ, Bool, true, false, List, [], ◌∷◌, ◌++◌, length, map, filter, find, All, get_or}
+use Rattle.std.proofs.Common.{◌≡◌, ℕ, ◌+◌, ◌^◌, ◌<◌, ◌≤◌, ℤ, Bool, true, false, List, [], ◌∷◌, ◌++◌, length, map, filter, find, All}
 use Rattle.std.proofs.Common.{take, Ordering, Option, None, Some, refl, sym, subst, ◌∙◌, ap, arith, inl, inr, length-take}
 use Rattle.std.specs.Prelude.{◌-◌, drop, IfSome, slice_get, slice_index}
-use Rattle.std.specs.List.{AllByRecursion, Contains, filter_map, list_any, range_with_len, sum_by}
+use Rattle.std.specs.List.{AllByRecursion, Contains, filter_map, list_any, range_with_len}
 use Rattle.std.specs.Option.{option_map, option_to_list}
 use Rattle.std.specs.Ordering.{eq_by_cmp, is_eq, nat_cmp, ordering_then}
 use Rattle.std.specs.declared.cmp.Ordering.TheVariants.{Less, Equal, Greater}
-use Rattle.std.proofs.lemmas.Bool.{cases_Bool, cases_order}
+use Rattle.std.proofs.lemmas.Bool.{cases_order}
 use Rattle.std.proofs.lemmas.Bool.Decides.{nat_tests}
 use Rattle.std.proofs.lemmas.List.{take-append-drop}
 use Rattle.std.proofs.lemmas.List.Elements.{All-from_recursion}

@@ -1,5 +1,5 @@
 -- What is found while the least key is taken first, and that what is taken is near enough.
-use Rattle.std.proofs.Common.{◌≡◌, ℕ, ◌+◌, ◌-◌, ◌<◌, ◌≤◌, true, false, List, [], ◌∷◌, ◌++◌, length, take}
+use Rattle.std.proofs.Common.{◌≡◌, ℕ, ◌+◌, ◌<◌, ◌≤◌, true, false, List, [], ◌∷◌, ◌++◌, length, take}
 use Rattle.std.proofs.Common.{All, Option, None, Some, get_or, refl, sym, subst, ◌∙◌, ap, arith, inl, inr}
 use Rattle.std.specs.Prelude.{◌==◌, IfSome, nat_lt, slice_index}
 use Rattle.std.specs.List.{filter_map, flat_map, list_any, range_with_len, sum_by}

@@ -1,6 +1,6 @@
 -- What a search keeps: what waits, what was sought, and the nearest so far.
-use Rattle.std.specs.Prelude.{◌≡◌, ℕ, ◌+◌, ◌-◌, ◌*◌, ◌<◌, ◌≤◌, ℤ, Bool, true, List, [], ◌∷◌, length, map, take, slice_index}
-use Rattle.std.specs.Prelude.{All, IfSome, Option, None, Some}
+use Rattle.std.specs.Prelude.{◌≡◌, ℕ, ◌+◌, ◌-◌, ◌*◌, ◌<◌, ◌≤◌, ℤ, Bool, true, List, [], ◌∷◌, length, take, slice_index}
+use Rattle.std.specs.Prelude.{All, IfSome, Option, Some}
 use Rattle.std.specs.List.{filter_map, sum_by}
 use Rattle.std.specs.List.Sorted.{IsPermutation}
 use Rattle.list_laws.specs.Ordered.{ordered}
@@ -8,12 +8,11 @@ use Rattle.track_types.specs.ByFilter.{near_order}
 use Rattle.track_types.specs.Frame.{periods_of}
 use Rattle.track_types.specs.Near.{IsCellAsked}
 use Rattle.track_types.specs.declared.cell.Cell.{Cell}
-use Rattle.track_types.specs.declared.cell_box.CellBox.{CellBox}
 use Rattle.track_types.specs.declared.near.Near.{Near}
 use Rattle.track_types.specs.declared.parts.Parts.{Parts}
 use Rattle.k2_tree.specs.Areas.{area_at}
 use Rattle.k2_tree.specs.Squares.{Node, node}
-use Rattle.box_tree.specs.Cost.{box_reads, place_reads, opened_square_reads}
+use Rattle.box_tree.specs.Cost.{box_reads, opened_square_reads}
 use Rattle.box_tree.specs.Places.{all_places, cell_passes, place_worth, square_places, held_square_count, square_worth}
 use Rattle.box_tree.specs.Tests.{squares_at}
 use Rattle.box_tree.specs.Tree.{IsNodeOf, TreeView, node_at, node_square}

@@ -1,5 +1,4 @@
 -- The order of what waits.
-use Rattle.std.specs.Prelude.{ℕ, ◌≤◌, List}
 use Rattle.std.specs.Ordering.{flip_args, nat_cmp, on}
 use Rattle.std.specs.declared.cmp.Ordering.{Ordering}
 use Rattle.nearest_search.specs.declared.waiting.Element.{Element}

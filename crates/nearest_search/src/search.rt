@@ -37,7 +37,6 @@ pub fn nearest<L: Reads>(
         found.items ≡ nears_of (chart_in stores.now).rows count instant cell) }
     ensures cost { steps.new ≤ steps.old + nearest_cost stores.now count instant cell }
 {
-    let _ = stores.frame(); // says what holds of every index
     if count == 0 {
         return Ok(Vec::new(alloc));
     }

@@ -192,7 +192,6 @@ impl<'a> Sought<'a> {
         ensures value { result ≡ near_at (quest_of self.now) place }
         ensures cost { steps.new ≤ steps.old + seek_reads_at (quest_of self.now) place }
     {
-        let _ = self.stores.frame(); // says what holds of every index
         let block = self.kept.block(place, steps);
         let found = self.cell_of(&block, steps)?;
         Some(Near {

@@ -1,4 +1,4 @@
-use Rattle.std.proofs.Common.{◌≡◌, ◌≤◌, length, ap, sym, subst, ◌∙◌, arith}
+use Rattle.std.proofs.Common.{◌≡◌, sym, subst, arith}
 use Rattle.std.specs.Prelude.{nat_le}
 use Rattle.nearest_search.specs.Cost.{is_no_farther, last_answer}
 use Rattle.nearest_search.specs.Kept.{ClosestView}

@@ -1,4 +1,4 @@
-use Rattle.std.proofs.Common.{◌≡◌, ◌∙◌, w64, to_z, of_z, arith, ap, sym}
+use Rattle.std.proofs.Common.{◌≡◌, ◌∙◌, w64, to_z, of_z, arith, ap}
 use Rattle.std.proofs.lemmas.Int.{ints}
 use Rattle.rule_store.specs.Log.{log_of}
 use Rattle.log_cursor.specs.Seek.{cell_among}

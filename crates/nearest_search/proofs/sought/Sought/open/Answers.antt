@@ -1,4 +1,4 @@
-use Rattle.std.proofs.Common.{◌≡◌, ◌+◌, ◌≤◌, [], length, ap, arith}
+use Rattle.std.proofs.Common.{length, ap, arith}
 use Rattle.std.specs.BinaryHeap.{heap_items}
 use Rattle.box_tree.proofs.TreeLemmas.{child_limit-few}
 use Rattle.nearest_search.specs.Seeking.{quest_of}

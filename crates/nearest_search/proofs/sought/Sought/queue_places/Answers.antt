@@ -1,4 +1,4 @@
-use Rattle.std.proofs.Common.{◌≡◌, ℕ, ◌+◌, ◌-◌, ◌*◌, ◌<◌, ◌≤◌, arith}
+use Rattle.std.proofs.Common.{◌-◌, arith}
 use Rattle.std.specs.BinaryHeap.{heap_items}
 use Rattle.nearest_search.specs.Seeking.{quest_of}
 use Rattle.nearest_search.proofs.OpenedLemmas.{filling-first, filling-last, filling-more}
