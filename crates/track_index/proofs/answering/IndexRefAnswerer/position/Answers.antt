@@ -1,15 +1,10 @@
-use Rattle.std.proofs.Common.{◌≡◌, ◌≤◌, ◌+◌, ℕ, ℤ, Option, None, Some, w64}
-use Rattle.std.proofs.Common.{to_z, of_z, refl, arith, ap, sym, subst, ◌∙◌}
+use Rattle.std.proofs.Common.{◌≡◌, Some, w64, to_z, of_z, arith, sym, ◌∙◌}
 use Rattle.std.proofs.lemmas.Int.{ints}
-use Rattle.step_count.specs.Reads.{ReadsWithin, ofPeriod}
+use Rattle.step_count.specs.Reads.{ofPeriod}
 use Rattle.track_types.specs.declared.parts.Parts.{Parts}
-use Rattle.log_cursor.specs.Seek.{cell_among}
-use Rattle.snapshots.specs.IndexCost.{position_cost, position_cost_in}
-use Rattle.snapshots.specs.Parts.{index_in, period_in, snapshot_in, stops_in}
-use Rattle.snapshots.specs.SoundParts.{IsValid}
-use Rattle.snapshots.specs.View.{block_of}
+use Rattle.snapshots.specs.IndexCost.{position_cost}
+use Rattle.snapshots.specs.Parts.{index_in, period_in}
 use Rattle.snapshots.proofs.NeedsLemmas.{is_found-same}
-use Rattle.object_track.specs.Needs.{seek_needs}
 use Rattle.object_track.proofs.NeedsLemmas.{may-position}
 use Rattle.track_index.specs.Cost.{cost_of}
 use Rattle.object_track.proofs.ChartLemmas.{cell_at-known, cell_at-outside, cell_at-unknown, index_in-some}
@@ -18,36 +13,28 @@ use Rattle.track_index.proofs.answering.IndexRefAnswerer.position.Given.{Over}
 use Rattle.track_index.proofs.answering.IndexRefAnswerer.position.Goals.{In_ok-period, In_ok-place}
 use Rattle.track_index.proofs.answering.IndexRefAnswerer.position.Goals as goal
 
--- what the stores say of the period is said of the index
-when-is : (stores parts : Parts) (z instant : ℤ) (period : Option ℕ) → stores ≡ parts → z ≡ instant
-    → period ≡ period_in stores.frame z → period ≡ period_in parts.frame instant
-when-is stores parts z instant period same is found =
-    found ∙ ap (period_in stores.frame) is ∙ ap (λ (p : Parts). period_in p.frame instant) same
-
 -- the place that was found is the object's in the index
 known : (g : Over) (c : In_ok-place g)
     → Some c.in_ok-place.place ≡ index_in c.args.self.index.now.objects c.args.object
-known g c =
-    c.in_ok-place.ensures.value ∙ ap (λ (p : Parts). index_in p.objects c.args.object) c.stores-stores.ensures.value
+known g c = rw c.stores-stores.ensures.value at c.in_ok-place.ensures.value
 
 -- the period that was found is the instant's in the index
 when : (g : Over) (c : In_ok-period g)
     → Some c.in_ok-period.period ≡ period_in c.args.self.index.now.frame c.args.instant
 when g c =
-    when-is c.stores-stores.result.now c.args.self.index.now _ c.args.instant (Some c.in_ok-period.period)
-    c.stores-stores.ensures.value (omega (arith, ints)) c.in_ok-period.ensures.value
+    let same : to_z w64 (of_z w64 c.args.instant) ≡ c.args.instant = omega (arith, ints) in
+    rw (c.stores-stores.ensures.value, same) at c.in_ok-period.ensures.value
 
 pub returns-in_err-place-clause-value : goal.returns-in_err-place-clause-value
 returns-in_err-place-clause-value g c =
-    let none = c.in_err-place.ensures.value
-    ∙ ap (λ (p : Parts). index_in p.objects c.args.object) c.stores-stores.ensures.value in
+    let none = rw c.stores-stores.ensures.value at c.in_err-place.ensures.value in
     c.from_residual.ensures ∙ sym (cell_at-unknown c.args.self.index.now c.stores-stores.ensures.valid c.args.object
     (sym none) c.args.instant)
 
 pub returns-in_err-period-clause-value : goal.returns-in_err-period-clause-value
 returns-in_err-period-clause-value g c =
-    let none = when-is c.stores-stores.result.now c.args.self.index.now _ c.args.instant None
-    c.stores-stores.ensures.value (omega (arith, ints)) c.in_err-period.ensures.value in
+    let same : to_z w64 (of_z w64 c.args.instant) ≡ c.args.instant = omega (arith, ints) in
+    let none = rw (c.stores-stores.ensures.value, same) at c.in_err-period.ensures.value in
     c.from_residual-in_err-period.ensures
     ∙ sym (cell_at-outside c.args.self.index.now c.stores-stores.ensures.valid c.args.object c.in_ok-place.place
     (sym (known g (goal.at.returns-in_err-period-clause-value g c).In_ok-place)) c.args.instant (sym none))
@@ -59,11 +46,9 @@ cell_in-requires-clause-place g c =
 
 pub cell_in-requires-clause-period : goal.cell_in-requires-clause-period
 cell_in-requires-clause-period g c =
-    let valid = subst IsValid (sym c.stores-stores.ensures.value) c.stores-stores.ensures.valid in
-    let when = when-is c.stores-stores.result.now c.stores-stores.result.now _ c.args.instant _ refl
-    (omega (arith, ints)) c.in_ok-period.ensures.value in
-    (period_in-some c.stores-stores.result.now.frame valid.shaped.header c.args.instant c.in_ok-period.period
-    (sym when)).0
+    rw c.stores-stores.ensures.value
+    (period_in-some c.args.self.index.now.frame c.stores-stores.ensures.valid.shaped.header c.args.instant
+    c.in_ok-period.period (sym (when g (goal.at.cell_in-requires-clause-period g c).In_ok-period))).0
 
 pub cell_in-requires-clause-may : goal.cell_in-requires-clause-may
 cell_in-requires-clause-may g c =
@@ -77,36 +62,24 @@ cell_in-requires-clause-log g c =
     let at = goal.at.cell_in-requires-clause-log g c in
     let place = c.in_ok-place.place in
     let number = c.in_ok-period.period in
-    let here : ℤ = to_z w64 (of_z w64 c.args.instant) in
-    let same : here ≡ c.args.instant = omega (arith, ints) in
+    let same : to_z w64 (of_z w64 c.args.instant) ≡ c.args.instant = omega (arith, ints) in
     let when : period_in parts.frame c.args.instant ≡ Some number = sym (when g at.In_ok-period) in
     let below = (period_in-some parts.frame c.stores-stores.ensures.valid.shaped.header c.args.instant number when).0 in
-    subst (λ (p : Parts). ReadsWithin (seek_needs p number here (block_of (snapshot_in p number) place)) g.L.Reads.may)
-    (sym c.stores-stores.ensures.value)
-    (subst (λ z. ReadsWithin (seek_needs parts number z (block_of (snapshot_in parts number) place)) g.L.Reads.may) (sym same)
+    rw (c.stores-stores.ensures.value, same)
     (may-position g.L.Reads.may parts c.args.object c.args.instant c.requires.may place number below
-    (sym (known g at.In_ok-place)) when))
+    (sym (known g at.In_ok-place)) when)
 
 pub returns-clause-value : goal.returns-clause-value
 returns-clause-value g c =
     let parts : Parts = c.args.self.index.now in
     let at = goal.at.returns-clause-value g c in
     let same : to_z w64 (of_z w64 c.args.instant) ≡ c.args.instant = omega (arith, ints) in
-    c.cell_in.ensures.value
-    ∙ ap (λ z. cell_among (stops_in c.stores-stores.result.now c.in_ok-place.place c.in_ok-period.period) z) same
-    ∙ ap (λ p. cell_among (stops_in p c.in_ok-place.place c.in_ok-period.period) c.args.instant)
-    c.stores-stores.ensures.value
+    (rw (c.stores-stores.ensures.value, same) at c.cell_in.ensures.value)
     ∙ sym (cell_at-known parts c.stores-stores.ensures.valid c.args.object c.in_ok-place.place
     (sym (known g at.In_ok-place)) c.args.instant c.in_ok-period.period (sym (when g at.In_ok-period)))
 
 pub returns-clause-cost : goal.returns-clause-cost
 unfolding cost_of position_cost
 returns-clause-cost g c =
-    let parts : Parts = c.args.self.index.now in
     let at = goal.at.returns-clause-cost g c in
-    let cost : c.cell_in.new.steps ≤ c.args.steps.now
-    + position_cost_in parts (Some c.in_ok-place.place) (Some c.in_ok-period.period) =
-    subst (λ p. c.cell_in.new.steps ≤ c.args.steps.now
-    + position_cost_in p (Some c.in_ok-place.place) (Some c.in_ok-period.period)) c.stores-stores.ensures.value
-    c.cell_in.ensures.cost in
-    rw (← known g at.In_ok-place, ← when g at.In_ok-period) cost
+    rw (← known g at.In_ok-place, ← when g at.In_ok-period) (rw c.stores-stores.ensures.value at c.cell_in.ensures.cost)

@@ -1,4 +1,4 @@
-use Rattle.std.proofs.Common.{◌≡◌, ℕ, Bool, ℤ, ◌≤◌, w64, to_z, of_z, arith, ap, subst, sym, ◌∙◌}
+use Rattle.std.proofs.Common.{◌≡◌, ℕ, Bool, ℤ, ◌≤◌, w64, to_z, of_z, arith, sym, ◌∙◌}
 use Rattle.std.specs.Prelude.{IfOk}
 use Rattle.std.proofs.lemmas.Int.{ints}
 use Rattle.std.proofs.lemmas.Result.{IfOk-weaker}
@@ -7,7 +7,6 @@ use Rattle.track_types.specs.declared.parts.Parts.{Parts}
 use Rattle.step_count.specs.Reads.{ReadsWithin}
 use Rattle.snapshots.specs.Needs.{is_of_block, is_of_logs, needs_between, needs_in, object_needs_between}
 use Rattle.snapshots.proofs.NeedsLemmas.{object-within}
-use Rattle.object_track.specs.Met.{AreMet}
 use Rattle.track_index.proofs.NeedsLemmas.{left-met, left-none}
 use Rattle.snapshots.specs.IndexCost.{is_met, path_cost}
 use Rattle.snapshots.specs.Parts.{chart_in, index_in}
@@ -23,8 +22,7 @@ use Rattle.track_index.proofs.answering.IndexRefAnswerer.walk.Goals.{After-new}
 pub returns-in_default-clause-left : goal.returns-in_default-clause-left
 returns-in_default-clause-left c =
     let parts : Parts = c.args.self.index.now in
-    let unknown = c.in_default.ensures.value
-    ∙ ap (λ (p : Parts). index_in p.objects c.args.object) c.stores-stores.ensures.value in
+    let unknown = rw c.stores-stores.ensures.value at c.in_default.ensures.value in
     let next = c.none.ensures.next in
     let behind = c.none.ensures.end in
     let nothing = stops_between-none parts 0 (to_z w64 (of_z w64 c.args.from)) (to_z w64 (of_z w64 c.args.to))
@@ -59,8 +57,7 @@ returns-in_default-clause-budget_to c =
 
 pub new-requires-2-clause-object : goal.new-requires-2-clause-object
 new-requires-2-clause-object c =
-    let known = c.in-Some.ensures.value
-    ∙ ap (λ (p : Parts). index_in p.objects c.args.object) c.stores-stores.ensures.value in
+    let known = rw c.stores-stores.ensures.value at c.in-Some.ensures.value in
     (index_in-some c.args.self.index.now.objects c.args.object c.in-Some.place (sym known)).0
 
 pub returns-clause-left : goal.returns-clause-left
@@ -139,13 +136,8 @@ returns-clause-needs c =
     let behind = c.met-periods.result.end in
     let low : to_z w64 (of_z w64 c.args.from) ≡ c.args.from = omega (arith, ints) in
     let high : to_z w64 (of_z w64 c.args.to) ≡ c.args.to = omega (arith, ints) in
-    let met : AreMet parts.frame c.args.from c.args.to next behind =
-    subst (λ z. AreMet parts.frame c.args.from z next behind) high
-    (subst (λ z. AreMet parts.frame z (to_z w64 (of_z w64 c.args.to)) next behind) low
-    (subst (λ (p : Parts). AreMet p.frame (to_z w64 (of_z w64 c.args.from)) (to_z w64 (of_z w64 c.args.to)) next behind)
-    c.stores-stores.ensures.value c.met-periods.ensures)) in
-    let known = c.in-Some.ensures.value
-    ∙ ap (λ (p : Parts). index_in p.objects c.args.object) c.stores-stores.ensures.value in
+    let met = rw (c.stores-stores.ensures.value, low, high) at c.met-periods.ensures in
+    let known = rw c.stores-stores.ensures.value at c.in-Some.ensures.value in
     IfOk-weaker c.new-2.result _
     (λ (w : PathView). ReadsWithin (path_needs w) (object_needs_between parts c.args.object c.args.from c.args.to))
     (λ walk within read needed. left-met parts c.args.object c.in-Some.place c.args.from c.args.to next behind known met read
