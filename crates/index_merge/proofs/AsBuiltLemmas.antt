@@ -1,5 +1,5 @@
 -- Charts of raw rows, made from an index and later rows.
-use Rattle.std.proofs.Common.{◌≡◌, ℕ, List, ◌++◌, ap}
+use Rattle.std.proofs.Common.{List, ap}
 use Rattle.track_types.specs.Chart.{chart_with}
 use Rattle.track_types.specs.declared.parts.Parts.{Parts}
 use Rattle.track_types.specs.declared.row.Row.{Row}

@@ -1,17 +1,16 @@
 -- The rows of an index's objects from a place on.
 use Rattle.std.proofs.Common.{◌≡◌, ℕ, suc, ◌+◌, ◌-◌, ◌<◌, ◌≤◌, List, [], ◌++◌, All, length, drop, map, Result, Ok, Err, refl, ap, sym, ◌∙◌, arith, inl, inr}
-use Rattle.std.specs.Prelude.{slice_get, slice_index, Option, None, Some}
+use Rattle.std.specs.Prelude.{slice_index, Some}
 use Rattle.std.specs.List.{flat_map, range_with_len, sum_by}
 use Rattle.std.specs.Prelude.{IfOk}
 use Rattle.std.proofs.lemmas.Bool.{cases_lt}
 use Rattle.std.proofs.lemmas.List.Elements.{All-map, All-weaker}
 use Rattle.std.proofs.lemmas.List.Sums.{sum_by-cons}
-use Rattle.std.proofs.lemmas.Option.{get_or_from_slice_get, slice_get_past, slice_get_within}
+use Rattle.std.proofs.lemmas.Option.{get_or_from_slice_get, slice_get_within}
 use Rattle.std.proofs.Math.Seq.{drop-cons}
 use Rattle.list_laws.proofs.IncreasingLemmas.{increasing-below}
 use Rattle.list_laws.proofs.RangeLemmas.{All-flat_map_range}
 use Rattle.track_types.specs.declared.parts.Parts.{Parts}
-use Rattle.track_types.specs.declared.row.Row.{Row}
 use Rattle.track_types.specs.declared.stop.Stop.{Stop}
 use Rattle.snapshots.specs.Parts.{chart_in, numbers_in, row_of, rows_in, stops_in}
 use Rattle.snapshots.specs.SoundParts.{IsValid}
@@ -116,31 +115,7 @@ module _ (parts : Parts) where
           let own = rw object-is at within in
           omega (arith, own, cost_from-step place object-within)
 
--- no path is to come after the last object, however the parts are seen
-pub rows_from-end : (parts seen : Parts) → seen ≡ parts → (place objects : ℕ) → objects ≡ length seen.objects → objects ≤ place
-    → rows_from parts place ≡ []
-rows_from-end parts seen its place objects many behind =
-    let all = ap (λ (p : Parts). length p.objects) its in
-    rows_from-none parts place (omega (arith, all, many, behind))
-
-pub object_at-end : (parts seen : Parts) → seen ≡ parts → (place objects : ℕ) → objects ≡ length seen.objects → objects ≤ place
-    → None ≡ object_at parts place
-object_at-end parts seen its place objects many behind =
-    let all = ap (λ (p : Parts). length p.objects) its in
-    sym (slice_get_past parts.objects place (omega (arith, all, many, behind)))
-
--- no row is of a lesser object than that at a place, however the parts are seen
-pub object-least_at : (parts seen : Parts) → seen ≡ parts → IsValid parts → (place object : ℕ)
-    → slice_get seen.objects place ≡ Some object → All (λ row. object ≤ row.object) (rows_from parts place)
-object-least_at parts seen its valid place object is =
-    object-least parts valid place object (sym (ap (λ (p : Parts). slice_get p.objects place) its) ∙ is)
-
--- what holds of what is answered
-pub ok-into : {T E : Type 0} (answer : Result T E) (P Q : T → Type 0) → ((found : T) → P found → Q found) → IfOk answer P → IfOk answer Q
-ok-into (Ok found) P Q into holds = into found holds
-ok-into (Err fault) P Q into holds = tt
-
--- so of three facts
+-- what holds of what is answered, where three facts do
 pub ok-into_all : {T E : Type 0} (answer : Result T E) (P Q R S : T → Type 0) → ((found : T) → P found → Q found → R found → S found)
     → IfOk answer P → IfOk answer Q → IfOk answer R → IfOk answer S
 ok-into_all (Ok found) P Q R S into one two three = into found one two three
