@@ -1,5 +1,4 @@
-use Rattle.std.proofs.Common.{◌≡◌, ◌∙◌, ℕ, ℤ, List, Bool, IsTrue, false, w64, to_z, of_z, arith}
-use Rattle.std.proofs.Common.{subst}
+use Rattle.std.proofs.Common.{◌≡◌, ◌∙◌, ℕ, ℤ, List, Bool, IsTrue, false, w64, to_z, of_z, arith, subst}
 use Rattle.std.proofs.lemmas.Int.{ints}
 use Rattle.step_count.specs.Reads.{ofPeriod}
 use Rattle.track_types.specs.declared.hit.Hit.{Hit}
