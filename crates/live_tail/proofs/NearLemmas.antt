@@ -278,13 +278,8 @@ module _ (rows tail : List Row) (up : IsAscending rows) (also : IsAscending tail
   moved-nears : IsPermutation (nears_at (rows_of_both rows tail) instant cell)
       (kept near_order near_order_total overridden (nears_at rows instant cell) ++ others)
   moved-nears =
-      subst (λ zs. IsPermutation zs (kept near_order near_order_total overridden (nears_at rows instant cell) ++ others)) (all-found (rows_of_both rows tail))
-      (subst (λ zs. IsPermutation (map (near_of cell) (filter (λ row. is_row_at instant row && true) (rows_of_both rows tail)))
-      (kept near_order near_order_total overridden zs ++ others)) (all-found rows)
-      (subst (λ zs. IsPermutation (map (near_of cell) (filter (λ row. is_row_at instant row && true) (rows_of_both rows tail)))
-      (left_of instant (near_of cell) (λ (near : Near). near.object) (λ row. refl) (λ row. true) tail
-      (map (near_of cell) (filter (λ row. is_row_at instant row && true) rows)) ++ map (near_of cell) zs)) (all-pass own)
-      (found-moved instant (near_of cell) (λ (near : Near). near.object) (λ row. refl) (λ row. true) rows tail up also)))
+      rw (all-found (rows_of_both rows tail), all-found rows, all-pass own)
+      at (found-moved instant (near_of cell) (λ (near : Near). near.object) (λ row. refl) (λ row. true) rows tail up also)
 
   rise : (rows : List Row) → IsAscending rows → IsStrictlySortedBy object_order (nears_at rows instant cell)
   rise rows up =

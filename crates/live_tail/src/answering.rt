@@ -64,7 +64,6 @@ impl<'a> Answerer for TailRef<'a> {
             (λ _. steps.new ≡ steps.old) }
     {
         let index = self.tailed.index().view();
-        let _ = index.facts(); // says that its chart is a table
         match self.tailed.tail().cell_at(object, instant) {
             Some(cell) => Some(cell),
             None => index.position(object, instant, steps),
@@ -79,7 +78,6 @@ impl<'a> Answerer for TailRef<'a> {
         to: i64,
     ) -> Result<TailWalk<'a, PathWalk<'a>>, Memory> {
         let index = self.tailed.index().view();
-        let _ = index.facts(); // says that its chart is a table
         let tail = self.tailed.tail();
         let _ = tail.rows(); // says that these ascend
         let walk = index.walk(alloc, object, from, to)?;
@@ -95,7 +93,6 @@ impl<'a> Answerer for TailRef<'a> {
         steps: &mut Steps<L>,
     ) -> Result<Vec<Sighting>, Memory> {
         let index = self.tailed.index().view();
-        let _ = index.facts(); // says that its chart is a table
         slice(alloc, index, self.tailed.tail(), instant, region, steps)
     }
 
@@ -108,7 +105,6 @@ impl<'a> Answerer for TailRef<'a> {
         steps: &mut Steps<L>,
     ) -> Result<Vec<Hit>, Memory> {
         let index = self.tailed.index().view();
-        let _ = index.facts(); // says that its chart is a table
         interval(alloc, index, self.tailed.tail(), from, to, region, steps)
     }
 
@@ -120,10 +116,7 @@ impl<'a> Answerer for TailRef<'a> {
         cell: Cell,
         steps: &mut Steps<L>,
     ) -> Result<Vec<Near>, Memory> {
-        let index = self.tailed.index();
-        let _ = index.stores(); // says that its parts are valid
-        let view = index.view();
-        let _ = view.facts(); // says that its chart is a table
+        let view = self.tailed.index().view();
         nearest(alloc, view, self.tailed.tail(), count, instant, cell, steps)
     }
 }

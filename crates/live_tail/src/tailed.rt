@@ -1,5 +1,6 @@
 ghost use Rattle.std.specs.Prelude.{◌≡◌, IfOk, IfSome};
 ghost use Rattle.snapshots.specs.Parts.{chart_in};
+ghost use Rattle.snapshots.specs.SoundParts.{IsValid};
 ghost use Rattle.live_tail.specs.Facts.{IsCount};
 ghost use Rattle.live_tail.specs.Join.{IsAsBuiltTogether};
 ghost use Rattle.live_tail.specs.View.{IsOfFrame};
@@ -63,8 +64,10 @@ impl<'a> Tailed<'a> {
 
     // The index.
     pub(crate) fn index(&self) -> &'a Index
-        ensures { result.now ≡ self.now.parts }
+        ensures value { result.now ≡ self.now.parts }
+        ensures valid { IsValid self.now.parts }
     {
+        let _ = self.index.stores(); // says that its parts are valid
         self.index
     }
 

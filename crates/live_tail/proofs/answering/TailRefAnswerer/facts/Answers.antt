@@ -1,11 +1,10 @@
-use Rattle.std.proofs.Common.{◌≡◌, Option, None, Some, to_z, of_z, w64, ap, sym, subst, ◌∙◌, rules}
-use Rattle.std.specs.Prelude.{IfSome}
+use Rattle.std.proofs.Common.{◌≡◌, Option, None, Some, to_z, of_z, w64, ap, sym, ◌∙◌, rules}
 use Rattle.std.specs.Int.{int_max, int_min}
-use Rattle.track_types.specs.Chart.{ChartView, IsChart}
-use Rattle.track_types.specs.Table.{IsTable}
+use Rattle.track_types.specs.Chart.{ChartView}
 use Rattle.track_types.specs.declared.facts.Facts.{Facts}
 use Rattle.track_types.specs.declared.parts.Parts.{Parts}
 use Rattle.snapshots.specs.Parts.{chart_in}
+use Rattle.object_track.proofs.TableLemmas.{IsTable-chart_in}
 use Rattle.track_index.specs.Facts.{facts_of}
 use Rattle.live_tail.proofs.FactsLemmas.{facts-made, first-none, first-some, last-none, last-some}
 use Rattle.live_tail.proofs.JoinLemmas.{IsTable-joint_chart}
@@ -16,7 +15,7 @@ returns-in_default-clause-value c =
     let parts : Parts = c.args.self.tailed.now.parts in
     let tail : Option ChartView = c.args.self.tailed.now.tail in
     let facts : Facts = c.facts-facts.result in
-    let is : facts ≡ facts_of parts = c.facts-facts.ensures.value ∙ ap facts_of (c.view.ensures ∙ c.index.ensures) in
+    let is : facts ≡ facts_of parts = c.facts-facts.ensures.value ∙ ap facts_of (c.view.ensures ∙ c.index.ensures.value) in
     let none : tail ≡ None = sym c.tail.ensures ∙ c.in_default.ensures.none in
     let first : to_z w64 (of_z w64 c.facts-facts.result.first) ≡ facts.first = search rules in
     let last : to_z w64 (of_z w64 c.facts-facts.result.last) ≡ facts.last = search rules in
@@ -28,8 +27,7 @@ returns-in_default-clause-table c =
     let parts : Parts = c.args.self.tailed.now.parts in
     let tail : Option ChartView = c.args.self.tailed.now.tail in
     let none : tail ≡ None = sym c.tail.ensures ∙ c.in_default.ensures.none in
-    let table : IsTable (chart_in parts) = subst (λ (p : Parts). IsTable (chart_in p)) (c.view.ensures ∙ c.index.ensures) c.facts-facts.ensures.table in
-    IsTable-joint_chart (chart_in parts) tail table (subst (λ t. IfSome t IsChart) (sym none) tt)
+    IsTable-joint_chart (chart_in parts) tail (IsTable-chart_in parts c.index.ensures.valid) (rw none tt)
 
 pub returns-clause-value : goal.returns-clause-value
 returns-clause-value c =
@@ -38,7 +36,7 @@ returns-clause-value c =
     let facts : Facts = c.facts-facts.result in
     let its = c.in-Some.ensures.some in
     let chart : ChartView = its.chart in
-    let is : facts ≡ facts_of parts = c.facts-facts.ensures.value ∙ ap facts_of (c.view.ensures ∙ c.index.ensures) in
+    let is : facts ≡ facts_of parts = c.facts-facts.ensures.value ∙ ap facts_of (c.view.ensures ∙ c.index.ensures.value) in
     let some : tail ≡ Some chart = sym c.tail.ensures ∙ c.in-Some.ensures.some.is in
     let first : to_z w64 (of_z w64 c.facts-facts.result.first) ≡ facts.first = search rules in
     let last : to_z w64 (of_z w64 c.facts-facts.result.last) ≡ facts.last = search rules in
@@ -62,5 +60,5 @@ returns-clause-table c =
     let parts : Parts = c.args.self.tailed.now.parts in
     let tail : Option ChartView = c.args.self.tailed.now.tail in
     let some : tail ≡ Some c.in-Some.ensures.some.chart = sym c.tail.ensures ∙ c.in-Some.ensures.some.is in
-    let table : IsTable (chart_in parts) = subst (λ (p : Parts). IsTable (chart_in p)) (c.view.ensures ∙ c.index.ensures) c.facts-facts.ensures.table in
-    IsTable-joint_chart (chart_in parts) tail table (subst (λ t. IfSome t IsChart) (sym some) c.in-Some.ensures.some.sound)
+    IsTable-joint_chart (chart_in parts) tail (IsTable-chart_in parts c.index.ensures.valid)
+    (rw some c.in-Some.ensures.some.sound)

@@ -1,51 +1,24 @@
-use Rattle.std.proofs.Common.{◌≡◌, ◌≤◌, ◌+◌, ℤ, List, Option, to_z, of_z, w64, ap, subst, ◌∙◌, arith}
-use Rattle.std.specs.Prelude.{IfOk}
+use Rattle.std.proofs.Common.{◌≡◌, to_z, of_z, w64, arith}
 use Rattle.std.proofs.lemmas.Int.{ints}
-use Rattle.track_types.specs.ByFilter.{hits_of}
-use Rattle.track_types.specs.Chart.{ChartView}
-use Rattle.track_types.specs.Table.{IsTable}
 use Rattle.track_types.specs.declared.parts.Parts.{Parts}
-use Rattle.track_types.specs.declared.row.Row.{Row}
 use Rattle.snapshots.specs.Parts.{chart_in}
-use Rattle.track_index.specs.Cost.{cost_of}
-use Rattle.live_tail.specs.Cost.{cost_beside, interval_cost_beside}
-use Rattle.live_tail.specs.Join.{joint_chart, rows_of_tail, rows_of_both}
+use Rattle.object_track.proofs.TableLemmas.{IsTable-chart_in}
+use Rattle.live_tail.specs.Cost.{cost_beside}
 use Rattle.live_tail.proofs.JoinLemmas.{joint_chart-rows}
 use Rattle.live_tail.proofs.answering.TailRefAnswerer.interval.Goals as goal
 
 pub returns-clause-ok : goal.returns-clause-ok
 returns-clause-ok g c =
     let parts : Parts = c.args.self.tailed.now.parts in
-    let tail : Option ChartView = c.args.self.tailed.now.tail in
-    let from : ℤ = c.args.from in
-    let to : ℤ = c.args.to in
-    let low : to_z w64 (of_z w64 c.args.from) ≡ from = omega (arith, ints) in
-    let high : to_z w64 (of_z w64 c.args.to) ≡ to = omega (arith, ints) in
-    let its : c.view-index.result.index.now ≡ parts = c.view-index.ensures ∙ c.index.ensures in
-    let table : IsTable (chart_in parts) = subst (λ (p : Parts). IsTable (chart_in p)) its c.facts.ensures.table in
-    let before : List Row = rows_of_both (chart_in c.view-index.result.index.now).rows (rows_of_tail c.tail.result.now) in
-    let rows : before ≡ (joint_chart (chart_in parts) tail).rows =
-    ap (λ (p : Parts). rows_of_both (chart_in p).rows (rows_of_tail c.tail.result.now)) its
-    ∙ ap (λ t. rows_of_both (chart_in parts).rows (rows_of_tail t)) c.tail.ensures
-    ∙ joint_chart-rows (chart_in parts) tail table.ascending in
-    subst (λ (rows : List Row). IfOk c.interval.result (λ found. found.items ≡ hits_of rows from to c.args.region.now)) rows
-    (subst (λ z. IfOk c.interval.result (λ found. found.items ≡ hits_of before from z c.args.region.now)) high
-    (subst (λ z. IfOk c.interval.result (λ found. found.items ≡ hits_of before z (to_z w64 (of_z w64 c.args.to)) c.args.region.now)) low
-    c.interval.ensures.ok))
+    let low : to_z w64 (of_z w64 c.args.from) ≡ c.args.from = omega (arith, ints) in
+    let high : to_z w64 (of_z w64 c.args.to) ≡ c.args.to = omega (arith, ints) in
+    let table = IsTable-chart_in parts c.index.ensures.valid in
+    let rows = joint_chart-rows (chart_in parts) c.args.self.tailed.now.tail table.ascending in
+    rw (c.view-index.ensures, c.index.ensures.value, c.tail.ensures, low, high, rows) at c.interval.ensures.ok
 
 pub returns-clause-cost : goal.returns-clause-cost
 unfolding cost_beside
 returns-clause-cost g c =
-    let from : ℤ = c.args.from in
-    let to : ℤ = c.args.to in
-    let low : to_z w64 (of_z w64 c.args.from) ≡ from = omega (arith, ints) in
-    let high : to_z w64 (of_z w64 c.args.to) ≡ to = omega (arith, ints) in
-    subst (λ t. c.interval.new.steps ≤ c.args.steps.now
-    + interval_cost_beside (cost_of c.args.self.tailed.now.parts) (rows_of_tail t) from to c.args.region.now) c.tail.ensures
-    (subst (λ (p : Parts). c.interval.new.steps ≤ c.args.steps.now
-    + interval_cost_beside (cost_of p) (rows_of_tail c.tail.result.now) from to c.args.region.now) (c.view-index.ensures ∙ c.index.ensures)
-    (subst (λ z. c.interval.new.steps ≤ c.args.steps.now + interval_cost_beside (cost_of c.view-index.result.index.now)
-    (rows_of_tail c.tail.result.now) from z c.args.region.now) high
-    (subst (λ z. c.interval.new.steps ≤ c.args.steps.now + interval_cost_beside (cost_of c.view-index.result.index.now)
-    (rows_of_tail c.tail.result.now) z (to_z w64 (of_z w64 c.args.to)) c.args.region.now) low
-    c.interval.ensures.cost)))
+    let low : to_z w64 (of_z w64 c.args.from) ≡ c.args.from = omega (arith, ints) in
+    let high : to_z w64 (of_z w64 c.args.to) ≡ c.args.to = omega (arith, ints) in
+    rw (c.view-index.ensures, c.index.ensures.value, c.tail.ensures, low, high) at c.interval.ensures.cost

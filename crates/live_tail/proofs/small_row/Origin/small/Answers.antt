@@ -1,4 +1,4 @@
-use Rattle.std.proofs.Common.{◌≡◌, ℤ, to_z, of_z, w64, ap, sym, ◌∙◌, rules}
+use Rattle.std.proofs.Common.{◌≡◌, to_z, of_z, w64, ap, sym, ◌∙◌, rules}
 use Rattle.std.specs.Prelude.{pos, ◌+ℤ◌}
 use Rattle.live_tail.proofs.SmallLemmas.{same-row}
 use Rattle.live_tail.proofs.small_row.Origin.small.Goals as goal
