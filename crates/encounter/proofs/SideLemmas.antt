@@ -151,12 +151,8 @@ module _ (pending : PendingView) (at : Start) where
     pub passed-is : IsSide now next (Some entry)
     passed-is = record {
       sound = sound;
-      way = subst (λ r. IsWayOf r next (entry.symbol ∷ now.symbols)) (sym rules_are)
-          (subst (IsWayOf pending.rules next) taken.symbols (past-way top is));
-      top_is = (
-        subst (λ (r : RulesView). entry ≡ entry_of r entry.symbol) (sym rules_are) taken.is,
-        subst (λ (r : RulesView). IsRoomy r now.depth entry.symbol) (sym rules_are) taken.roomy,
-      );
+      way = rw (rules_are, ← taken.symbols) (past-way top is);
+      top_is = rw rules_are (taken.is, taken.roomy);
     }
 
     pub passed : IsPassed (side_of pending at top) (side_of now next (Some entry))
@@ -193,13 +189,9 @@ module _ (pending opened now : PendingView) (at : Start) (entry left : Entry) (i
   pub opened-is : IsSide now at (Some left)
   opened-is = record {
     sound = sound;
-    way = subst (λ r. IsWayOf r at (left.symbol ∷ now.symbols)) (sym rules-are)
-        (subst (IsWayOf pending.rules at) parts-are
-        (IsWayOf-parts pending.rules entry.symbol pending.symbols rule is.top_is.1.known below.0 below.1 at is.way));
-    top_is = (
-      subst (λ (r : RulesView). left ≡ entry_of r left.symbol) (sym same_rules) taken.is,
-      subst (λ (r : RulesView). IsRoomy r now.depth left.symbol) (sym same_rules) taken.roomy,
-    );
+    way = rw (rules-are, ← parts-are)
+        (IsWayOf-parts pending.rules entry.symbol pending.symbols rule is.top_is.1.known below.0 below.1 at is.way);
+    top_is = rw same_rules (taken.is, taken.roomy);
   }
 
   pub opened-to : OpensNode (side_of pending at (Some entry)) (side_of now at (Some left))

@@ -49,46 +49,62 @@ returns-then-window-one-clause-turned g c =
           over-right _ _ _ _ _ tells told _ over _ (omega arith)
     ]
 
-pub returns-then-more-clause-turned : goal.returns-then-more-clause-turned
-returns-then-more-clause-turned g c =
-    let apart = sym (close_is g (goal.at.returns-then-more-clause-turned g c).After-may_meet) ∙ c.if-not-may_meet.true in
+pub returns-then-more : goal.returns-then-more
+returns-then-more g c =
+    let apart = sym (close_is g (goal.at.returns-then-more g c).After-may_meet) ∙ c.if-not-may_meet.true in
     let tells = c.node-one.ensures.tells in
     let told = c.node-other.ensures.tells in
     elim c.if-one-other.branch [
       | then-one-other w ↦
           let sooner : c.args.left.now.top.end ≤ℤ c.args.right.now.top.end =
           omega (arith, ints, w.if-one-other.true, c.node-one.ensures.end, c.node-other.ensures.end) in
-          rw (w.left-is, w.right-is, w.steps-is)
-          (passed-left _ _ _ _ _ tells told _ apart sooner _ _ (w.pass-more.ensures.more (sym w.more-is ∙ c.if-more.true))
-          w.pass-more.ensures.cost)
+          record {
+            turned = rw (w.left-is, w.right-is, w.steps-is)
+                (passed-left _ _ _ _ _ tells told _ apart sooner _ _ (w.pass-more.ensures.more (sym w.more-is ∙ c.if-more.true))
+                w.pass-more.ensures.cost);
+            places = rw w.left-is w.pass-more.ensures.places;
+            others = rw w.right-is refl;
+          }
       | else-one-other w ↦
           let sooner : c.args.right.now.top.end ≤ℤ c.args.left.now.top.end =
           omega (arith, ints, w.if-one-other.false, c.node-one.ensures.end, c.node-other.ensures.end) in
-          rw (w.left-is, w.right-is, w.steps-is)
-          (passed-right _ _ _ _ _ tells told _ apart sooner _ _
-          (w.pass-more-else-one-other.ensures.more (sym w.more-is ∙ c.if-more.true))
-          w.pass-more-else-one-other.ensures.cost)
+          record {
+            turned = rw (w.left-is, w.right-is, w.steps-is)
+                (passed-right _ _ _ _ _ tells told _ apart sooner _ _
+                (w.pass-more-else-one-other.ensures.more (sym w.more-is ∙ c.if-more.true))
+                w.pass-more-else-one-other.ensures.cost);
+            places = rw w.left-is refl;
+            others = rw w.right-is w.pass-more-else-one-other.ensures.places;
+          }
     ]
 
-pub returns-else-more-clause-turned : goal.returns-else-more-clause-turned
-returns-else-more-clause-turned g c =
-    let apart = sym (close_is g (goal.at.returns-else-more-clause-turned g c).After-may_meet) ∙ c.if-not-may_meet.true in
+pub returns-else-more : goal.returns-else-more
+returns-else-more g c =
+    let apart = sym (close_is g (goal.at.returns-else-more g c).After-may_meet) ∙ c.if-not-may_meet.true in
     let tells = c.node-one.ensures.tells in
     let told = c.node-other.ensures.tells in
     elim c.if-one-other.branch [
       | then-one-other w ↦
           let sooner : c.args.left.now.top.end ≤ℤ c.args.right.now.top.end =
           omega (arith, ints, w.if-one-other.true, c.node-one.ensures.end, c.node-other.ensures.end) in
-          rw (w.left-is, w.right-is, w.steps-is)
-          (ended-left _ _ _ _ _ tells told _ apart sooner _ _ (w.pass-more.ensures.end (sym w.more-is ∙ c.if-more.false))
-          w.pass-more.ensures.cost)
+          record {
+            turned = rw (w.left-is, w.right-is, w.steps-is)
+                (ended-left _ _ _ _ _ tells told _ apart sooner _ _ (w.pass-more.ensures.end (sym w.more-is ∙ c.if-more.false))
+                w.pass-more.ensures.cost);
+            places = rw w.left-is w.pass-more.ensures.places;
+            others = rw w.right-is refl;
+          }
       | else-one-other w ↦
           let sooner : c.args.right.now.top.end ≤ℤ c.args.left.now.top.end =
           omega (arith, ints, w.if-one-other.false, c.node-one.ensures.end, c.node-other.ensures.end) in
-          rw (w.left-is, w.right-is, w.steps-is)
-          (ended-right _ _ _ _ _ tells told _ apart sooner _ _
-          (w.pass-more-else-one-other.ensures.end (sym w.more-is ∙ c.if-more.false))
-          w.pass-more-else-one-other.ensures.cost)
+          record {
+            turned = rw (w.left-is, w.right-is, w.steps-is)
+                (ended-right _ _ _ _ _ tells told _ apart sooner _ _
+                (w.pass-more-else-one-other.ensures.end (sym w.more-is ∙ c.if-more.false))
+                w.pass-more-else-one-other.ensures.cost);
+            places = rw w.left-is refl;
+            others = rw w.right-is w.pass-more-else-one-other.ensures.places;
+          }
     ]
 
 pub returns-then-opens_first-clause-turned : goal.returns-then-opens_first-clause-turned
@@ -118,27 +134,3 @@ returns-clause-turned g c =
       rw (end, c.node-one.ensures.cell, c.node-other.ensures.cell) refl,
       found-both _ _ _ _ _ c.node-one.ensures.tells c.node-other.ensures.tells _ close left right _ (omega arith),
     )
-
-pub returns-then-more-clause-places : goal.returns-then-more-clause-places
-returns-then-more-clause-places g c = elim c.if-one-other.branch [
-  | then-one-other w ↦ rw w.left-is w.pass-more.ensures.places
-  | else-one-other w ↦ rw w.left-is refl
-]
-
-pub returns-then-more-clause-others : goal.returns-then-more-clause-others
-returns-then-more-clause-others g c = elim c.if-one-other.branch [
-  | then-one-other w ↦ rw w.right-is refl
-  | else-one-other w ↦ rw w.right-is w.pass-more-else-one-other.ensures.places
-]
-
-pub returns-else-more-clause-places : goal.returns-else-more-clause-places
-returns-else-more-clause-places g c = elim c.if-one-other.branch [
-  | then-one-other w ↦ rw w.left-is w.pass-more.ensures.places
-  | else-one-other w ↦ rw w.left-is refl
-]
-
-pub returns-else-more-clause-others : goal.returns-else-more-clause-others
-returns-else-more-clause-others g c = elim c.if-one-other.branch [
-  | then-one-other w ↦ rw w.right-is refl
-  | else-one-other w ↦ rw w.right-is w.pass-more-else-one-other.ensures.places
-]

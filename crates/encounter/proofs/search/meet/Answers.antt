@@ -3,11 +3,11 @@ use Rattle.std.specs.Prelude.{IfOk}
 use Rattle.std.proofs.lemmas.Int.{ints}
 use Rattle.std.proofs.lemmas.Option.{IfSome_then}
 use Rattle.std.proofs.lemmas.Result.{IfOk-weaker}
-use Rattle.snapshots.specs.SoundParts.{IsValid}
 use Rattle.object_track.specs.Met.{AreMet}
 use Rattle.object_track.proofs.ChartLemmas.{index_in-some}
 use Rattle.encounter.proofs.NeedsLemmas.{pair-met}
-use Rattle.encounter.proofs.SeekingLemmas.{meet_cost_between-met, meet_cost_until-met, meeting_of-known, meeting_of-unknown_left, meeting_of-unknown_right}
+use Rattle.encounter.proofs.SeekingLemmas.{meet_cost_between-met, meet_cost_until-met, meeting_of-known}
+use Rattle.encounter.proofs.SeekingLemmas.{meeting_of-unknown_left, meeting_of-unknown_right}
 use Rattle.encounter.proofs.search.meet.Given.{Over}
 use Rattle.encounter.proofs.search.meet.Goals as goal
 use Rattle.encounter.proofs.search.meet.Goals.{After-met-periods}
@@ -15,15 +15,13 @@ use Rattle.encounter.proofs.search.meet.Goals.{After-met-periods}
 pub returns-in_default-clause-ok : goal.returns-in_default-clause-ok
 returns-in_default-clause-ok g c =
     let window = c.args.window.now in
-    let valid : IsValid c.args.stores.now = record { shaped = c.frame.ensures.shaped; sound = c.frame.ensures.sound } in
-    sym (meeting_of-unknown_left c.args.stores.now valid c.args.left c.args.right window.from window.to window.reach
+    sym (meeting_of-unknown_left c.args.stores.now c.frame.ensures.valid c.args.left c.args.right window.from window.to window.reach
     (sym c.in_default.ensures.value))
 
 pub returns-in_default-index_of-clause-ok : goal.returns-in_default-index_of-clause-ok
 returns-in_default-index_of-clause-ok g c =
     let window = c.args.window.now in
-    let valid : IsValid c.args.stores.now = record { shaped = c.frame.ensures.shaped; sound = c.frame.ensures.sound } in
-    sym (meeting_of-unknown_right c.args.stores.now valid c.args.left c.args.right window.from window.to window.reach
+    sym (meeting_of-unknown_right c.args.stores.now c.frame.ensures.valid c.args.left c.args.right window.from window.to window.reach
     (sym c.in_default-index_of.ensures.value))
 
 pub meet_in_periods-requires-clause-left : goal.meet_in_periods-requires-clause-left
@@ -40,10 +38,7 @@ are_met : (g : Over) (c : After-met-periods g) → AreMet c.args.stores.now.fram
 are_met g c =
     let low : to_z w64 (of_z w64 c.args.window.now.from) ≡ c.args.window.now.from = omega (arith, ints) in
     let high : to_z w64 (of_z w64 c.args.window.now.to) ≡ c.args.window.now.to = omega (arith, ints) in
-    subst (λ z. AreMet c.args.stores.now.frame c.args.window.now.from z c.met-periods.result.next
-    c.met-periods.result.end) high
-    (subst (λ z. AreMet c.args.stores.now.frame z (to_z w64 (of_z w64 c.args.window.now.to)) c.met-periods.result.next
-    c.met-periods.result.end) low c.met-periods.ensures)
+    rw (low, high) at c.met-periods.ensures
 
 pub meet_in_periods-requires-clause-may : goal.meet_in_periods-requires-clause-may
 meet_in_periods-requires-clause-may g c = λ read needed.
@@ -54,10 +49,9 @@ meet_in_periods-requires-clause-may g c = λ read needed.
 pub returns-clause-ok : goal.returns-clause-ok
 returns-clause-ok g c =
     let window = c.args.window.now in
-    let valid : IsValid c.args.stores.now = record { shaped = c.frame.ensures.shaped; sound = c.frame.ensures.sound } in
     let met = are_met g (goal.at.returns-clause-ok g c).After-met-periods in
     subst (λ one. IfOk c.meet_in_periods.result (λ found. found ≡ one))
-    (meeting_of-known c.args.stores.now valid c.args.left c.args.right window.from window.to window.reach c.in-Some.one
+    (meeting_of-known c.args.stores.now c.frame.ensures.valid c.args.left c.args.right window.from window.to window.reach c.in-Some.one
     c.in-Some-index_of.other c.met-periods.result.next c.met-periods.result.end (sym c.in-Some.ensures.value)
     (sym c.in-Some-index_of.ensures.value) met) c.meet_in_periods.ensures.ok
 
@@ -73,9 +67,8 @@ returns-clause-cost g c =
 pub returns-clause-sooner : goal.returns-clause-sooner
 returns-clause-sooner g c =
     let window = c.args.window.now in
-    let valid : IsValid c.args.stores.now = record { shaped = c.frame.ensures.shaped; sound = c.frame.ensures.sound } in
     let met = are_met g (goal.at.returns-clause-sooner g c).After-met-periods in
     IfOk-weaker c.meet_in_periods.result _ _ (λ found some. IfSome_then found some (λ meeting ends.
-    meet_cost_until-met c.args.stores.now valid c.args.left c.args.right c.in-Some.one c.in-Some-index_of.other
+    meet_cost_until-met c.args.stores.now c.frame.ensures.valid c.args.left c.args.right c.in-Some.one c.in-Some-index_of.other
     window.from window.to window.reach c.met-periods.result.next c.met-periods.result.end _ _ meeting.instant
     (sym c.in-Some.ensures.value) (sym c.in-Some-index_of.ensures.value) met ends)) c.meet_in_periods.ensures.sooner

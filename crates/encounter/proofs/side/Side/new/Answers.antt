@@ -1,7 +1,6 @@
-use Rattle.std.proofs.Common.{◌≡◌, subst, sym, ap, ◌∙◌}
+use Rattle.std.proofs.Common.{◌≡◌, subst, ap, ◌∙◌}
 use Rattle.rule_store.specs.Flaws.{AreRules}
 use Rattle.rule_store.specs.Log.{block_stops, log_of}
-use Rattle.log_cursor.specs.Start.{IsWayOf}
 use Rattle.log_cursor.proofs.WayLemmas.{IsWayOf-placed, length-log_of}
 use Rattle.encounter.specs.Span.{log_tree}
 use Rattle.encounter.proofs.side.Side.new.Goals as goal
@@ -16,8 +15,7 @@ invariant_of-result c =
     let way = IsWayOf-placed rules c.args.start log sound (length-log_of c.args.view sound) c.requires in
     record {
       sound = c.begin.ensures.sound;
-      way = subst (λ r. IsWayOf r c.args.start now.symbols) (sym same)
-          (subst (IsWayOf rules c.args.start) (sym c.begin.ensures.symbols) way);
+      way = rw (same, c.begin.ensures.symbols) way;
       top_is = tt;
     }
 

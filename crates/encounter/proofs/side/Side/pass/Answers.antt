@@ -1,8 +1,7 @@
 use Rattle.std.proofs.Common.{Some, None, ap, sym, subst, ◌∙◌}
 use Rattle.rule_store.proofs.LogLemmas.{stops_after-none}
-use Rattle.log_cursor.specs.Start.{IsWayOf}
 use Rattle.rule_store.specs.Log.{stops_after}
-use Rattle.encounter.specs.Side.{IsPassed, IsSide, SideView, past_of, side_of}
+use Rattle.encounter.specs.Side.{IsSide, SideView, past_of}
 use Rattle.encounter.specs.Span.{BlockTree}
 use Rattle.encounter.proofs.SideLemmas.{past-later, past-start, past-way, passed, passed-is}
 use Rattle.encounter.proofs.side.Side.pass.Goals as goal
@@ -16,9 +15,8 @@ invariant_of-self g c =
     let now = c.next.new.self in
     subst (λ start. IsSide now start None) (sym c.past-next.ensures) (record {
       sound = c.next.ensures.sound;
-      way = subst (λ r. IsWayOf r (past_of old.at old.top) now.symbols) (sym c.next.ensures.rules)
-          (subst (IsWayOf old.pending.rules (past_of old.at old.top)) (c.in_default.ensures.none ∙ sym c.in_default.ensures.end)
-          (past-way old.pending old.at old.top c.self.invariant));
+      way = rw (c.next.ensures.rules, c.in_default.ensures.end ∙ sym c.in_default.ensures.none)
+          (past-way old.pending old.at old.top c.self.invariant);
       top_is = tt;
     })
 
@@ -41,8 +39,6 @@ invariant_of-self-2 g c =
 pub returns-clause-more : goal.returns-clause-more
 returns-clause-more g c _ =
     let old = c.self.inside in
-    subst (λ before. IsPassed before (side_of c.next.new.self c.past-next.result (Some c.in-Some.entry))) c.self.view_is
-    (subst (λ start. IsPassed (side_of old.pending old.at old.top) (side_of c.next.new.self start (Some c.in-Some.entry)))
-    (sym c.past-next.ensures)
+    rw (← c.self.view_is, c.past-next.ensures)
     (passed old.pending old.at c.next.new.self old.top c.in-Some.entry c.self.invariant c.in-Some.ensures.found
-    c.next.ensures.rules c.next.ensures.sound))
+    c.next.ensures.rules c.next.ensures.sound)
