@@ -43,7 +43,8 @@ pub fn keep_bounded<L: Reads>(
     ensures period { IfOk result (λ judged. IsOfPeriod number judged.tracks) }
     ensures cost { steps.new ≤ steps.old + blocks_reads snapshot.now }
 {
-    // First, since it takes the bounds in order: after it all are near, in whatever order they are taken.
+    // First, since it takes the bounds in order: after it all are near, in whatever order they are
+    // taken.
     let areas = areas_of(alloc, bounds, snapshot.frame().base)?;
     let found = find_bounded(alloc, snapshot, bounds, steps)?;
     let tracks = keep_tracks(alloc, snapshot, number, &found, &areas)?;
