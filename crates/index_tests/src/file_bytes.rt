@@ -74,7 +74,8 @@ const BLOCKS: [Told; 4] = [
 fn are_blocks(blocks: &[OutlineBlock], told: &[Told]) -> bool {
     blocks.len() == told.len()
         && blocks.iter().zip(told).all(|(block, told)| {
-            let cell = (block.cell.x, block.cell.y);
+            let cell = block.cell.unpack();
+            let cell = (cell.x, cell.y);
             (block.period, block.index, block.offset, cell, block.length) == *told
         })
 }

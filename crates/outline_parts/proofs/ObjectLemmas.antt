@@ -1,5 +1,5 @@
 -- The block of an object of a period, as an outline has it, from what is stored of the period.
-use Rattle.std.proofs.Common.{◌≡◌, ℕ, ◌+◌, ◌<◌, true, false, List, [], ◌∷◌, ◌++◌, length, get_or, map, pos, Some, Option}
+use Rattle.std.proofs.Common.{◌≡◌, ℕ, ◌+◌, ◌^◌, ◌<◌, ◌≤◌, true, false, List, [], ◌∷◌, ◌++◌, length, get_or, map, pos, Some, Option}
 use Rattle.std.proofs.Common.{refl, sym, ap, ◌∙◌, append-nil, arith}
 use Rattle.std.specs.Prelude.{slice_get, slice_index, slice_index_or, sum, take}
 use Rattle.std.specs.List.{filter_map, range_with_len}
@@ -14,6 +14,7 @@ use Rattle.track_types.specs.declared.period_parts.PeriodParts.{PeriodParts}
 use Rattle.snapshots.specs.Parts.{no_period, period_at, snapshot_in, start_in, symbols_of}
 use Rattle.snapshots.specs.SoundParts.{IsValid}
 use Rattle.snapshots.proofs.ReachLemmas.{IsSnapshot-valid}
+use Rattle.std.proofs.Math.Nat.{pow-le-pow_right}
 use Rattle.std.proofs.lemmas.Int.{ints}
 use Rattle.std.proofs.lemmas.List.{get_or-map, get_or_default, length-map}
 use Rattle.std.proofs.lemmas.Option.{get_or_from_slice_get}
@@ -24,8 +25,11 @@ use Rattle.object_perm.specs.Permutation.{inverse_of}
 use Rattle.object_perm.proofs.OntoLemmas.{inverse_of-within}
 use Rattle.track_types.specs.declared.cell.Cell.{Cell}
 use Rattle.track_types.specs.declared.frame.Frame.{Frame}
+use Rattle.track_types.specs.declared.limit.TheConstants.{MAX_HEIGHT}
 use Rattle.k2_tree.specs.Morton.{cell_of}
 use Rattle.k2_tree.specs.Tree.{codes_in}
+use Rattle.k2_tree.proofs.MortonLemmas.{morton_column-lt, morton_row-lt}
+use Rattle.log_bounds.specs.Bounds.{IsWord}
 use Rattle.rule_store.proofs.CellLemmas.{same_cell}
 use Rattle.snapshots.specs.Sound.{IsSnapshot}
 use Rattle.snapshots.specs.View.{SnapshotView, block_of, leaf_at, tree_in, widths_in}
@@ -43,6 +47,15 @@ corner = record { x = pos 0; y = pos 0 }
 cell-counted : (frame : Frame) (code : ℕ) → cell_in frame (cell_of frame.height frame.base code) ≡ cell_of frame.height corner code
 unfolding cell_of
 cell-counted frame code = same_cell _ _ _ _ (omega (arith, ints)) (omega (arith, ints))
+
+-- 32 bits hold its column and its line
+pub cell-words : (height code : ℕ) → height ≤ MAX_HEIGHT → IsWord (cell_of height corner code).x × IsWord (cell_of height corner code).y
+unfolding cell_of
+cell-words height code fits =
+    let most : 2 ^ height ≤ 2 ^ MAX_HEIGHT = pow-le-pow_right {n = 2} (omega arith) fits in (
+      record { low = omega (arith, ints); high = omega (arith, ints, most, morton_column-lt height code) },
+      record { low = omega (arith, ints); high = omega (arith, ints, most, morton_row-lt height code) },
+    )
 
 -- a block with these fields
 abbrev placed_with : ℕ → ℕ → ℕ → Cell → ℕ → ℕ → PlacedBlock

@@ -12,6 +12,7 @@ use crate::descending::codes_of_bits;
 use crate::opening::PlacedBlock;
 use index_format::OutlineBlock;
 use k2_tree::cell_at;
+use log_bounds::GridCell;
 use std::alloc::{AllocError, Global};
 use track_types::{BitList, Cell, Frame, Parts, PeriodParts};
 
@@ -101,12 +102,13 @@ fn push_object(
     }
     let rank = next.rank as usize;
     let length = period.lengths.as_slice()[rank];
+    let cell = cell_at(codes[rank], at.frame.height, Cell { x: 0, y: 0 });
     placed.push(PlacedBlock {
         block: OutlineBlock {
             period: at.number,
             index,
             offset: period.offsets.as_slice()[rank],
-            cell: cell_at(codes[rank], at.frame.height, Cell { x: 0, y: 0 }),
+            cell: GridCell::pack(cell),
             length,
         },
         start: next.start,
