@@ -3,7 +3,6 @@ pub mod MonotoneLemmas
 pub mod BridgeLemmas
 pub mod TreeLemmas
 pub mod CostLemmas
-pub mod QueueLemmas
 pub mod NearerLemmas
 pub mod NodeLemmas
 pub mod WalkLemmas

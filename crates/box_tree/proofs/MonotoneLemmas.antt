@@ -4,7 +4,6 @@ use Rattle.std.proofs.Common.{ap, ◌∙◌, arith, subst}
 use Rattle.std.proofs.Math.Nat.{div-one}
 use Rattle.std.proofs.lemmas.Int.{ints}
 use Rattle.track_types.specs.Region.{in_box, intersects_region, Intersects}
-use Rattle.track_types.specs.Widening.{widened}
 use Rattle.track_types.specs.declared.cell.Cell.{Cell}
 use Rattle.track_types.specs.declared.cell_box.CellBox.{CellBox}
 use Rattle.track_types.specs.declared.limit.TheConstants.{MAX_HEIGHT}
@@ -73,12 +72,3 @@ wider-intersects region inner outer inside holds =
       }),
       touched.2,
     )
-
--- and stays so where boxes are made wider before
-pub wider-widened : (keep : CellBox → Bool) (width : ℕ) → IsWider keep → IsWider (λ area. keep (widened width area))
-wider-widened keep width wide inner outer inside holds = wide (widened width inner) (widened width outer) (record {
-  left = omega (arith, ints, inside.left);
-  right = omega (arith, ints, inside.right);
-  below = omega (arith, ints, inside.below);
-  above = omega (arith, ints, inside.above);
-}) holds

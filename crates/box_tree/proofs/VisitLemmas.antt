@@ -1,7 +1,7 @@
 -- Walks over places: what a node that is visited, and a place that is looked at, change.
 use Rattle.std.proofs.Common.{◌≡◌, ℕ, suc, ◌+◌, ◌-◌, ◌<◌, ◌≤◌, true, false, ◌∷◌, filter, refl, []}
 use Rattle.std.proofs.Common.{arith}
-use Rattle.box_tree.specs.Places.{Places, Square, square_worth, place_passes, square_places, square_with}
+use Rattle.box_tree.specs.Places.{Places, Square, square_worth, place_passes, square_places}
 use Rattle.box_tree.specs.Tests.{Tests}
 use Rattle.box_tree.specs.Walk.{IsVisited, NodeWalkView, places_left, walk_reads}
 use Rattle.box_tree.proofs.NodeLemmas.{squares_in-own}
