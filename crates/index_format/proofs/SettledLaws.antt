@@ -1,7 +1,7 @@
 -- The order of rules in a file is that of settled rules.
-use Rattle.std.proofs.Common.{◌≡◌, ℕ, zero, suc, ◌+◌, ◌<◌, true, false, Bool, nat_le, List, [], ◌∷◌, length, get_or, refl, sym, ap, ◌∙◌, arith}
+use Rattle.std.proofs.Common.{◌≡◌, ℕ, zero, suc, ◌+◌, ◌<◌, true, false, Bool, List, [], ◌∷◌, length, get_or, refl, sym, ap, ◌∙◌, arith}
 use Rattle.std.specs.Prelude.{not, zip}
-use Rattle.std.specs.Ordering.{is_lt, nat_cmp}
+use Rattle.std.specs.Ordering.{is_lt}
 use Rattle.std.proofs.lemmas.Bool.{and_parts, lt-ltb}
 use Rattle.std.proofs.lemmas.Bool.Decides.{nat_tests}
 use Rattle.std.proofs.lemmas.List.{get_or-drop, length-drop}
@@ -24,10 +24,6 @@ not-true false is = refl
 -- a rule, known by its layer
 abbrev Known : Type 0
 Known = ℕ × (ℕ × ℕ)
-
--- a number is at most another if and only if that one does not come before it
-last-order : (m n : ℕ) → nat_le m n ≡ not (is_lt (nat_cmp n m))
-last-order m n = grind (arith, nat_tests)
 
 -- one may follow another if and only if it does not come before it
 may_follow-order : (a b : Known) → may_follow a b ≡ not (is_lt (key_order b a))

@@ -1,20 +1,11 @@
 -- The first cause in the order in which causes are looked for.
-use Rattle.std.proofs.Common.{◌≡◌, ℕ, zero, suc, ◌+◌, ◌<◌, ◌≤◌, Bool, true, false, List, [], ◌∷◌, Option, None, Some, length, drop, inl, inr, refl, ap, sym, ◌∙◌, arith}
-use Rattle.std.specs.Prelude.{◌==◌, slice_get, slice_index, find, nat_lt}
+use Rattle.std.proofs.Common.{◌≡◌, ℕ, suc, ◌+◌, ◌<◌, ◌≤◌, Bool, true, false, List, [], ◌∷◌, Option, None, Some, drop, refl, ap, sym, ◌∙◌, arith}
+use Rattle.std.specs.Prelude.{◌==◌, slice_get, find}
 use Rattle.std.specs.Option.{option_map, option_or}
-use Rattle.std.proofs.lemmas.Bool.{cases_Bool, eq-eqb}
-use Rattle.std.proofs.lemmas.Bool.Decides.{nat_tests}
 use Rattle.std.proofs.Math.Seq.{drop-cons}
 use Rattle.std.proofs.lemmas.Option.{get_or_from_slice_get, slice_get_within}
-use Rattle.std.proofs.lemmas.List.Elements.{Contains-get_or}
-use Rattle.list_laws.proofs.FindLemmas.{find-passed_over}
-use Rattle.list_laws.proofs.MemberLemmas.{none_from_list_any}
-use Rattle.track_types.specs.Limits.{limit_of}
 use Rattle.track_types.specs.declared.frame.Frame.{Frame}
-use Rattle.track_types.specs.declared.limit.LimitKind.TheVariants.{Rows}
 use Rattle.track_types.specs.declared.parts.Parts.{Parts}
-use Rattle.track_types.specs.declared.row.Row.{Row}
-use Rattle.gridding.specs.GridLimit.{chart_fault}
 use Rattle.gridding.specs.GridLimit.{IsGridFaultFor}
 use Rattle.gridding.specs.declared.fault.GridFault.{GridFault}
 use Rattle.gridding.specs.declared.fault.GridFault.TheVariants as gridding
@@ -33,15 +24,6 @@ IsMergeFaultFor-is first fault.Empty is = is
 IsMergeFaultFor-is first (fault.Common object) is = is
 IsMergeFaultFor-is first (fault.Limit kind value) is = is
 IsMergeFaultFor-is first (fault.Settings which left right) is = is
-
--- where one cause is another, so are their faults
-pub IsMergeFaultFor-from : (first whole : Option MergeFault) (told : MergeFault)
-    → (first ≡ Some told → whole ≡ Some told) → IsMergeFaultFor first told → IsMergeFaultFor whole told
-IsMergeFaultFor-from first whole fault.Memory into is = tt
-IsMergeFaultFor-from first whole fault.Empty into is = into is
-IsMergeFaultFor-from first whole (fault.Common object) into is = into is
-IsMergeFaultFor-from first whole (fault.Limit kind value) into is = into is
-IsMergeFaultFor-from first whole (fault.Settings which left right) into is = into is
 
 -- headers and objects of what is the same have the same faults
 pub settings_fault-alike : (left right one other : Parts) (frame also : Frame) → one ≡ left → other ≡ right

@@ -1,8 +1,8 @@
 -- What tests of boxes keep of a tree: nothing wanted is lost, and a stronger test keeps fewer squares and leaves.
-use Rattle.std.proofs.Common.{◌≡◌, ℕ, ◌+◌, ◌/◌, ◌^◌, ◌≤◌, ◌==◌, Bool, true, List, [], ◌∷◌, length, filter}
+use Rattle.std.proofs.Common.{◌≡◌, ℕ, ◌+◌, ◌/◌, ◌^◌, ◌≤◌, ◌==◌, Bool, true, List, [], ◌∷◌, filter}
 use Rattle.std.proofs.Common.{map, refl, arith, All}
 use Rattle.std.specs.List.{enumerate_from}
-use Rattle.std.proofs.lemmas.Bool.{and_from, and_parts}
+use Rattle.std.proofs.lemmas.Bool.{and_from}
 use Rattle.std.proofs.lemmas.List.Elements.{All-append, All-nil, All-cons, All-head, All-map, All-tail, All-weaker}
 use Rattle.std.proofs.lemmas.List.Filters.{All-dedup}
 use Rattle.list_laws.proofs.FilterLemmas.{filter_implied, length-filter-le}
@@ -28,16 +28,6 @@ unfolding passes digits_left digits_in
 passes-from_each test [] code each = and_from _ _ (each 0 (omega arith)) refl
 passes-from_each test (w ∷ ws) code each =
     and_from _ _ (each (w + digits_in ws) (omega arith)) (passes-from_each test ws code (λ m low. each m (omega arith)))
-
--- what passes a test passes another that is true on each square where it is
-pub passes-weaker : (a b : Node → Bool) (widths : List ℕ) (code : ℕ)
-    → ((m : ℕ) → m ≤ digits_in widths → a (node m (code / 4 ^ m)) ≡ true → b (node m (code / 4 ^ m)) ≡ true)
-    → passes a widths code ≡ true → passes b widths code ≡ true
-unfolding passes digits_left digits_in
-passes-weaker a b [] code only e = and_from _ _ (only 0 (omega arith) (and_parts _ _ e).0) refl
-passes-weaker a b (w ∷ ws) code only e =
-    and_from _ _ (only (w + digits_in ws) (omega arith) (and_parts _ _ e).0)
-    (passes-weaker a b ws code (λ m low. only m (omega arith)) (and_parts _ _ e).1)
 
 -- what holds of all cells holds of them with their numbers
 pub All-enumerate_from : (P : Cell → Type 0) (k : ℕ) (cells : List Cell) → All P cells
@@ -110,21 +100,3 @@ module _ (tree : Tree) (is : IsTree tree) where
         (All-weaker (λ square. IsBoxWithin (area_at tree.base square))
         (λ square. on_areas strong tree square ≡ true → on_areas weak tree square ≡ true)
         (λ square. only (area_at tree.base square)) (squares_of tree) areas_within)
-
-    -- what passes the stronger test at a cell passes the weaker
-    passes_at-weaker : (cell : Cell) → IsInGrid tree.height tree.base cell → passes_at strong tree cell ≡ true
-        → passes_at weak tree cell ≡ true
-    unfolding passes_at
-    passes_at-weaker cell inside =
-        passes-weaker (on_areas strong tree) (on_areas weak tree) (tree_widths tree)
-        (morton_of tree.height tree.base cell)
-        (λ m low. only (area_at tree.base (node m (morton_of tree.height tree.base cell / fan ^ m)))
-        (area_within is.grid inside m (in_height tree is m low)))
-
-    -- fewer leaves pass it
-    pub kept_leaves-le : length (kept_leaves strong tree) ≤ length (kept_leaves weak tree)
-    kept_leaves-le =
-        let P : Cell → Type 0 = λ cell. passes_at strong tree cell ≡ true → passes_at weak tree cell ≡ true in
-        length-filter-le (λ leaf. passes_at strong tree leaf.1) (λ leaf. passes_at weak tree leaf.1) (leaves_of tree)
-        (All-enumerate_from P 0 tree.cells
-        (All-weaker (IsInGrid tree.height tree.base) P passes_at-weaker tree.cells is.inside))

@@ -96,8 +96,3 @@ module _ {X : Type 0} (passes : X → Bool) (key : X → ℕ) (own : ℕ) (one_k
   pub filter-own_key : (xs : List X) → filter passes (filter (λ x. key x == own) xs) ≡ filter passes xs
   filter-own_key [] = refl
   filter-own_key (x ∷ xs) = grind (arith, nat_tests, one_key x, filter-own_key xs)
-
-  -- and there is nothing of another key
-  pub filter-other_key : (n : ℕ) → n ≢ own → (xs : List X) → filter passes (filter (λ x. key x == n) xs) ≡ []
-  filter-other_key n differ [] = refl
-  filter-other_key n differ (x ∷ xs) = grind (arith, nat_tests, one_key x, filter-other_key n differ xs)

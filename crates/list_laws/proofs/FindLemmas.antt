@@ -47,13 +47,6 @@ pub find-some_passes : {X : Type 0} (p : X → Bool) (xs : List X) (other : Opti
 find-some_passes p [] other some = absurd (cc)
 find-some_passes p (x ∷ xs) other some = grind (arith, find-some_passes p xs other)
 
--- a search that finds nothing passed the first element over, and finds nothing among the others
-pub find-passed_over : {X : Type 0} (p : X → Bool) (x : X) (xs : List X) → find p (x ∷ xs) ≡ None → (p x ≡ false) × (find p xs ≡ None)
-find-passed_over p x xs none = elim (cases_Bool (p x)) [
-  | inl passes ↦ let found : Some x ≡ None = rw passes at none in absurd (cc)
-  | inr fails ↦ (fails, rw fails at none)
-]
-
 -- a search among images
 pub find-map : {X Y : Type 0} (p : Y → Bool) (f : X → Y) (xs : List X) → find p (map f xs) ≡ option_map f (find (λ x. p (f x)) xs)
 find-map p f [] = refl

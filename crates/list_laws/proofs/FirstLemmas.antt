@@ -1,11 +1,10 @@
 -- What is first of what members give, each of which may give nothing.
 use Rattle.std.proofs.Common.{◌≡◌, ℕ, zero, suc, ◌+◌, ◌<◌, ◌≤◌, List, [], ◌∷◌, map, Option, None, Some, All, inl, inr, refl, ap, ◌∙◌, arith}
-use Rattle.std.specs.List.{filter_map, range_with_len}
+use Rattle.std.specs.List.{range_with_len}
 use Rattle.std.specs.Option.{option_map, option_or}
 use Rattle.std.proofs.lemmas.Bool.{cases_order}
 use Rattle.std.proofs.lemmas.List.Elements.{All-nil, All-cons, All-head, All-tail}
 use Rattle.list_laws.specs.First.{first_given}
-use Rattle.list_laws.proofs.OptionLemmas.{made_cases}
 
 module _ {Y : Type 0} (give : ℕ → Option Y) where
   -- nothing comes where no number of a range gives anything
@@ -77,21 +76,6 @@ unfolding first_given
 first_given-none give [] none = refl
 first_given-none give (x ∷ xs) none =
     rw (All-head (λ y. give y ≡ None) x xs none) (first_given-none give xs (All-tail (λ y. give y ≡ None) x xs none))
-
--- what is made of a member, if something is
-abbrev pub made_first : {X Y : Type 0} → (X → Option Y) → Option X → Option Y
-made_first give None = None
-made_first give (Some x) = give x
-
--- what is first of what is made of some members
-pub first_given-filter_map : {X Y Z : Type 0} (give : Y → Option Z) (make : X → Option Y) (xs : List X)
-    → first_given give (filter_map make xs) ≡ first_given (λ x. made_first give (make x)) xs
-unfolding first_given
-first_given-filter_map give make [] = refl
-first_given-filter_map give make (x ∷ xs) = elim (made_cases (make x)) [
-  | inl none ↦ rw none (first_given-filter_map give make xs)
-  | inr some ↦ rw some.1 (ap (option_or (give some.0)) (first_given-filter_map give make xs))
-]
 
 -- what is first of what mapped members give
 pub first_given-map : {X Y Z : Type 0} (give : Y → Option Z) (f : X → Y) (xs : List X)

@@ -22,7 +22,6 @@ pub mod IncreasingLemmas
 pub mod AscendingLemmas
 pub mod ApartLemmas
 pub mod PartLemmas
-pub mod SearchLemmas
 pub mod NumberLemmas
 pub mod WeightLemmas
 pub mod StableLemmas

@@ -59,13 +59,6 @@ map-back f g [] back = refl
 map-back f g (x ∷ xs) back =
     rw (back 0 x (omega arith)) (ap (λ ys. x ∷ ys) (map-back f g xs (λ k d h. back (suc k) d (omega arith))))
 
--- what is made of the first parts beside the second ones
-pub zip-map : {X Y Z : Type 0} (f : X → Y) (xs : List X) (zs : List Z) →
-    zip (map f xs) zs ≡ map (λ pair. (f pair.0, pair.1)) (zip xs zs)
-zip-map f [] zs = refl
-zip-map f (x ∷ xs) [] = refl
-zip-map f (x ∷ xs) (z ∷ zs) = ap (λ all. (f x, z) ∷ all) (zip-map f xs zs)
-
 -- elements side by side, of which two functions make the same lists
 pub zip-agree : {X Y Z : Type 0} (f : X → Z) (g : Y → Z) (xs : List X) (ys : List Y) (x : X) (y : Y)
     → map f xs ≡ map g ys → Contains (zip xs ys) (x, y) → f x ≡ g y

@@ -1,9 +1,8 @@
 -- Lists of one element or none, and what is made of some members of a list.
-use Rattle.std.proofs.Common.{◌≡◌, ◌⊎◌, Bool, false, List, [], ◌∷◌, ◌++◌, filter, All, Option, Some, None, refl, ap, sym, inl, inr, ◌∙◌}
+use Rattle.std.proofs.Common.{◌≡◌, ◌⊎◌, Bool, false, List, [], ◌∷◌, ◌++◌, filter, All, Option, Some, None, refl, ap, inl, inr, ◌∙◌}
 use Rattle.std.specs.List.{cons_option, filter_map, flat_map}
 use Rattle.std.specs.Option.{option_to_list}
 use Rattle.std.proofs.lemmas.Bool.{cases_Bool}
-use Rattle.std.proofs.lemmas.List.{append_assoc, append-nil}
 use Rattle.std.proofs.lemmas.List.Elements.{All-nil, All-cons, All-head, All-tail}
 
 -- a value is there or not
@@ -15,12 +14,6 @@ made_cases (Some y) = inr (y, refl)
 pub append-option : {X : Type 0} (one : Option X) (xs : List X) → option_to_list one ++ xs ≡ cons_option one xs
 append-option None xs = refl
 append-option (Some x) xs = refl
-
--- one between others, or none
-pub append-cons_option : {X : Type 0} (xs ys : List X) (one : Option X)
-    → xs ++ cons_option one ys ≡ (xs ++ option_to_list one) ++ ys
-append-cons_option xs ys None = ap (λ zs. zs ++ ys) (sym (append-nil xs))
-append-cons_option xs ys (Some x) = sym (append_assoc xs (x ∷ []) ys)
 
 -- lists of one or none, laid end to end
 pub flat_map-options : {X Y : Type 0} (f : X → List Y) (g : X → Option Y) → ((x : X) → f x ≡ option_to_list (g x))

@@ -29,13 +29,6 @@ slice_get-last xs x y is =
     let place : length (xs ++ x ∷ []) - 1 ≡ length xs = omega (arith, length-append xs (x ∷ [])) in
     slice_get-seam xs x [] y (rw place at is)
 
--- what stands at a place is the first of what is left without those before it
-pub slice_get-drop : {X : Type 0} (xs : List X) (k : ℕ) → slice_get xs k ≡ slice_get (drop k xs) 0
-slice_get-drop [] zero = refl
-slice_get-drop [] (suc k) = refl
-slice_get-drop (x ∷ xs) zero = refl
-slice_get-drop (x ∷ xs) (suc k) = slice_get-drop xs k
-
 -- all of what is left
 pub take-rest : {X : Type 0} (n : ℕ) (xs : List X) → take (length xs - n) (drop n xs) ≡ drop n xs
 take-rest n xs = rw (← length-drop n xs) (take-length (drop n xs))

@@ -1,6 +1,6 @@
 -- The objects of rows: which there are, and a search for one.
-use Rattle.std.proofs.Common.{◌≡◌, ℕ, zero, suc, ◌+◌, ◌<◌, ◌≤◌, Bool, true, false, Option, None, Some, List, [], ◌∷◌, ◌++◌, length, get_or, map, eqb, Result, Ok, Err, refl, sym, ◌∙◌, ap, arith, inl, inr}
-use Rattle.std.specs.Prelude.{◌==◌, ◌||◌, find, is_ok, is_some, slice_get}
+use Rattle.std.proofs.Common.{◌≡◌, ℕ, ◌+◌, ◌<◌, ◌≤◌, Bool, true, false, List, [], ◌∷◌, ◌++◌, length, get_or, map, eqb, Result, Ok, Err, refl, sym, ◌∙◌, ap, arith, inl, inr}
+use Rattle.std.specs.Prelude.{◌==◌, ◌||◌, find, is_ok, is_some}
 use Rattle.std.specs.List.{Contains, dedup, list_any}
 use Rattle.std.specs.List.Sorted.{IsBinarySearchResult, IsSearchInRange, IsSorted, IsStrictlySortedBy}
 use Rattle.std.specs.Ordering.{is_lt, nat_cmp}
@@ -40,37 +40,10 @@ pub any-map : {X Y : Type 0} (p : Y → Bool) (f : X → Y) (xs : List X) → li
 any-map p f [] = refl
 any-map p f (x ∷ xs) = grind (arith, any-map p f xs)
 
-or_true_right : (b : Bool) → (b || true) ≡ true
-or_true_right true = refl
-or_true_right false = refl
-
-or_false_right : (b : Bool) → (b || false) ≡ b
-or_false_right true = refl
-or_false_right false = refl
-
--- an object is one that there may be
-abbrev pub option_any_is : ℕ → Option ℕ → Bool
-option_any_is object None = false
-option_any_is object (Some x) = object == x
-
 -- one element more
 pub any-push : {X : Type 0} (p : X → Bool) (xs : List X) (x : X) → list_any p (xs ++ x ∷ []) ≡ (list_any p xs || p x)
 any-push p [] x = grind (arith)
 any-push p (y ∷ xs) x = grind (arith, any-push p xs x)
-
--- one that is there already
-pub any-again : (object : ℕ) (xs : List ℕ) → list_any (λ o. object == o) xs ≡ true → (other : ℕ)
-    → list_any (λ o. other == o) xs ≡ (list_any (λ o. other == o) xs || (other == object))
-any-again object xs again other = elim (cases_Bool (other == object)) [
-  | inl is ↦ rw is (ap (λ o. list_any (λ z. o == z) xs) (eqb-true other object is) ∙ again ∙ sym (or_true_right _))
-  | inr not ↦ rw not (sym (or_false_right _))
-]
-
--- the last is there
-pub any-at : (object : ℕ) (xs : List ℕ) (i : ℕ) → option_any_is object (slice_get xs i) ≡ true → list_any (λ o. object == o) xs ≡ true
-any-at object [] i is = absurd (cc)
-any-at object (x ∷ xs) zero is = grind (arith, is)
-any-at object (x ∷ xs) (suc i) is = grind (arith, any-at object xs i is)
 
 -- a member that passes
 pub any-member : {X : Type 0} (p : X → Bool) (xs : List X) (x : X) → Contains xs x → p x ≡ true → list_any p xs ≡ true

@@ -28,13 +28,6 @@ module _ (rules : RulesView) (stack : List ℕ) (symbol : ℕ) where
     ];
   }
 
-  -- one less
-  pub AreRoomy-rest : AreRoomy rules (stack ++ symbol ∷ []) → AreRoomy rules stack
-  AreRoomy-rest roomy = record {
-    each = λ place within. subst (IsRoomy rules place) (get_or_append_left stack (symbol ∷ []) 0 place within)
-        (roomy.each place (omega (arith, length-append stack (symbol ∷ []))));
-  }
-
   -- the one on top
   pub AreRoomy-top : AreRoomy rules (stack ++ symbol ∷ []) → IsRoomy rules (length stack) symbol
   AreRoomy-top roomy =

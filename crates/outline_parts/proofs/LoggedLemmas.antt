@@ -1,7 +1,7 @@
 -- Blocks with the symbols of their logs: what is laid side by side, and what was laid end to end.
 use Rattle.std.proofs.Common.{All, ◌≡◌, ℕ, List, [], ◌∷◌, ◌++◌, length, map, take, drop, refl, ap, ◌∙◌, arith}
 use Rattle.std.specs.List.{flat_map, sum_by}
-use Rattle.std.proofs.lemmas.List.{drop_at, length-drop, length-take, take-append-drop, take_at}
+use Rattle.std.proofs.lemmas.List.{drop_at, length-drop, take-append-drop, take_at}
 use Rattle.std.proofs.lemmas.List.Elements.{All-head, All-tail}
 use Rattle.std.proofs.lemmas.List.Sums.{sum_by-cons}
 use Rattle.index_format.specs.IsOutline.{blocks_with_logs}
@@ -30,19 +30,6 @@ symbols-logged (block ∷ blocks) symbols all =
     ap (λ rest. take block.length symbols ++ rest)
     (symbols-logged blocks (drop block.length symbols) (omega (arith, left, more)))
     ∙ take-append-drop block.length symbols
-
--- each log has as many symbols as its block says
-pub lengths-logged : (blocks : List OutlineBlock) (symbols : List ℕ) → sum_by block_length blocks ≡ length symbols →
-    map (λ it. length it.1) (blocks_with_logs blocks symbols) ≡ map block_length blocks
-unfolding blocks_with_logs
-lengths-logged [] symbols all = refl
-lengths-logged (block ∷ blocks) symbols all =
-    let left = length-drop block.length symbols in
-    let more = sum_by-cons block_length block blocks in
-    let long : length (take block.length symbols) ≡ block.length = omega (arith, length-take block.length symbols, more) in
-    ap (λ n. n ∷ map (λ it. length it.1) (blocks_with_logs blocks (drop block.length symbols))) long
-    ∙ ap (λ rest. block.length ∷ rest)
-    (lengths-logged blocks (drop block.length symbols) (omega (arith, left, more)))
 
 -- blocks with their logs, once these are laid end to end, are told again
 pub logged-again : (its : List (OutlineBlock × List ℕ)) → All (λ it. length it.1 ≡ it.0.length) its →

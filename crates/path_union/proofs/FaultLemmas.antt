@@ -1,16 +1,14 @@
 -- The first cause for which rows have no chart.
-use Rattle.std.proofs.Common.{◌≡◌, ℕ, ◌+◌, ◌<◌, ◌≤◌, true, false, List, Option, None, Some, length, inl, inr, refl, ap, sym, ◌∙◌, arith}
+use Rattle.std.proofs.Common.{◌≡◌, ℕ, ◌+◌, ◌<◌, ◌≤◌, true, Option, None, Some, inl, inr, refl, sym, ◌∙◌, arith}
 use Rattle.std.specs.Prelude.{nat_lt}
-use Rattle.std.specs.Option.{option_or}
 use Rattle.std.proofs.lemmas.Bool.{cases_Bool}
 use Rattle.std.proofs.lemmas.Bool.Decides.{nat_tests}
 use Rattle.track_types.specs.Limits.{limit_of}
 use Rattle.track_types.specs.declared.limit.LimitKind.TheVariants.{Rows}
-use Rattle.track_types.specs.declared.row.Row.{Row}
-use Rattle.gridding.specs.GridLimit.{IsGridFaultFor, chart_fault}
+use Rattle.gridding.specs.GridLimit.{IsGridFaultFor}
 use Rattle.gridding.specs.declared.fault.GridFault.{GridFault}
 use Rattle.gridding.specs.declared.fault.GridFault.TheVariants.{Empty, Limit, Memory}
-use Rattle.path_union.specs.Fault.{count_fault, rows_fault}
+use Rattle.path_union.specs.Fault.{count_fault}
 
 -- where one cause is another, so are their faults
 pub IsGridFaultFor-from : (first whole : Option GridFault) (told : GridFault)
@@ -18,10 +16,6 @@ pub IsGridFaultFor-from : (first whole : Option GridFault) (told : GridFault)
 IsGridFaultFor-from first whole Memory into is = tt
 IsGridFaultFor-from first whole Empty into is = into is
 IsGridFaultFor-from first whole (Limit kind value) into is = into is
-
--- so many rows are not too many
-pub count_fault-few : (rows : ℕ) → rows ≤ limit_of Rows → count_fault rows ≡ None
-count_fault-few rows few = let within : nat_lt (limit_of Rows) rows ≡ false = grind (arith, nat_tests) in rw within refl
 
 pub count_fault-many : (rows : ℕ) → limit_of Rows < rows → count_fault rows ≡ Some (Limit Rows (limit_of Rows + 1))
 count_fault-many rows many = let past : nat_lt (limit_of Rows) rows ≡ true = grind (arith, nat_tests) in rw past refl
@@ -34,14 +28,3 @@ count_fault-more some more told least is = IsGridFaultFor-from (count_fault some
       | inl many ↦ count_fault-many more (grind (arith, nat_tests)) ∙ sym (rw many refl) ∙ past
       | inr few ↦ let never : None ≡ Some told = sym (rw few refl) ∙ past in absurd (cc)
     ]) is
-
--- too many rows are refused whatever they are
-pub rows_fault-count : (rows : List Row) (period : ℕ) (told : GridFault) → IsGridFaultFor (count_fault (length rows)) told
-    → IsGridFaultFor (rows_fault rows period) told
-rows_fault-count rows period told =
-    IsGridFaultFor-from (count_fault (length rows)) (rows_fault rows period) told
-    (λ is. ap (λ first. option_or first (chart_fault rows period)) is)
-
--- few enough are judged as the rows of a chart
-pub rows_fault-few : (rows : List Row) (period : ℕ) → length rows ≤ limit_of Rows → rows_fault rows period ≡ chart_fault rows period
-rows_fault-few rows period few = ap (λ first. option_or first (chart_fault rows period)) (count_fault-few (length rows) few)

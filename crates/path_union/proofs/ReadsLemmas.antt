@@ -1,5 +1,5 @@
 -- What was read of walks and paths until a row is passed.
-use Rattle.std.proofs.Common.{◌≡◌, ℕ, ℤ, ◌<ℤ◌, ◌+◌, ◌-◌, ◌<◌, ◌≤◌, true, false, List, [], ◌∷◌, ◌++◌, length, get_or, map, All, Option, None, Some, refl, sym, ap, subst, ◌∙◌, arith, inl, inr, ◌⊎◌}
+use Rattle.std.proofs.Common.{◌≡◌, ℕ, ℤ, ◌<ℤ◌, ◌+◌, ◌-◌, ◌<◌, ◌≤◌, false, List, [], ◌∷◌, ◌++◌, length, map, All, Option, None, Some, refl, sym, ap, subst, ◌∙◌, arith, inl, inr, ◌⊎◌}
 use Rattle.std.specs.Prelude.{if◌then◌else◌, option_map, slice_get}
 use Rattle.std.specs.List.{AllByRecursion}
 use Rattle.std.specs.List.Sorted.{IsStrictlySortedBy}
@@ -62,14 +62,6 @@ before-place drawn rest stop place up before = elim (slice_get_cases (drawn ++ s
 -- a draw, by what is read until a stop is passed, and in all
 module _ (end result : Option Stop) (before now : ℤ → ℕ) (all left begun steps : ℕ)
     (in_time : IsDrawnInTime before now begun steps result) (cost : steps + left ≤ begun + all) where
-  -- no more was read than until the end
-  pub drawn-within : steps ≤ begun + up_to (λ (stop : Stop). before stop.instant) all end
-  drawn-within = within end
-    where
-      within : (end : Option Stop) → steps ≤ begun + up_to (λ (stop : Stop). before stop.instant) all end
-      within None = omega (arith, cost)
-      within (Some stop) = let its = in_time stop.instant in omega (arith, its)
-
   -- and the rest is still there where it was not met
   pub drawn-before : IfSome end (λ stop. is_past stop.instant result ≡ false)
       → steps + up_to (λ (stop : Stop). now stop.instant) left end ≤ begun + up_to (λ (stop : Stop). before stop.instant) all end

@@ -4,7 +4,7 @@ use Rattle.std.proofs.Common.{refl, ap, ◌∙◌, arith, inl, inr, Bool, true, 
 use Rattle.std.specs.Prelude.{◌==◌, ◌⊎◌, ◌&&◌, if◌then◌else◌, IsTrue, Option, Some, None, is_some, option_map}
 use Rattle.std.specs.Option.{option_map_or}
 use Rattle.std.proofs.lemmas.Bool.{cases_eq, cases_lt, eq-eqb, ne_eqb}
-use Rattle.std.proofs.lemmas.List.{get_or-map, get_or-set_same, length-map, map-set, set-get_or}
+use Rattle.std.proofs.lemmas.List.{get_or-map, get_or-set_same, length-map, map-set}
 use Rattle.std.proofs.lemmas.List.Sums.{sum_by-set}
 use Rattle.step_count.specs.Reads.{Read, ReadsWithin}
 use Rattle.track_types.specs.declared.question.Question.{Question}
@@ -76,13 +76,6 @@ stops_at-held desk slot = shown_at (option_map (λ walk. walk.0)) refl desk slot
     shown_at f empty (place ∷ desk) zero = refl
     shown_at f empty (place ∷ desk) (suc slot) = shown_at f empty desk slot
 
-pub is_some-stops_at : (desk : DeskView) (slot : ℕ) → is_some (stops_at (held_of desk) slot) ≡ is_held_in desk slot
-is_some-stops_at desk slot = ap is_some (stops_at-held desk slot) ∙ is_some-map (slot_walk desk slot)
-  where
-    is_some-map : (place : Option (List Stop × ℕ)) → is_some (option_map (λ walk. walk.0) place) ≡ is_some place
-    is_some-map None = refl
-    is_some-map (Some walk) = refl
-
 -- the lists and the budget of a desk of which a place was given another walk, or none
 module _ (desk : DeskView) (slot : ℕ) (place : Option (List Stop × ℕ)) where
   pub held_of-set : held_of (set desk slot place) ≡ set (held_of desk) slot (option_map (λ walk. walk.0) place)
@@ -106,11 +99,6 @@ budget_of-emptied desk slot = elim (cases_lt slot (length desk)) [
   | inl below ↦ omega (arith, budget_of-set desk slot None below)
   | inr beyond ↦ omega (arith, ap budget_of (set_beyond desk slot None beyond))
 ]
-
--- nothing was drawn
-pub draws-nothing : (desk : DeskView) (slot steps : ℕ) → Draws desk desk slot steps steps
-draws-nothing desk slot steps =
-    record { held = refl; others = sym (set-get_or desk slot None); cost = omega arith }
 
 module _ (before between : DeskView) (slot start here : ℕ) (draws : Draws before between slot start here) where
   -- what the desk may read falls by what was read

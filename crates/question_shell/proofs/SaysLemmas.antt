@@ -1,5 +1,5 @@
 -- Saying one text after another, while some is held back.
-use Rattle.std.proofs.Common.{◌≡◌, ℕ, List, [], ◌++◌, refl, sym, ap, ◌∙◌, append_assoc, append-nil}
+use Rattle.std.proofs.Common.{◌≡◌, ℕ, List, [], ◌++◌, sym, ap, ◌∙◌, append_assoc, append-nil}
 use Rattle.std.proofs.Common.{take, drop, subst, Result, Ok, Err, OnErr}
 use Rattle.std.proofs.lemmas.List.{take-append-drop}
 use Rattle.host_ports.specs.Histories.{Gains}
@@ -52,15 +52,6 @@ cuts-more before now text more cut = record {
     said = cut.says.said;
   };
 }
-
--- a text is held back
-pub says-held : (said : List ℕ) (held text : List ℕ) → Says (voice said held) (voice said (held ++ text)) text
-says-held said held text = record { sent = []; split = refl; said = Gains-nothing said }
-
--- all that was held back is said
-pub says-all : (said now : List ℕ) (held : List ℕ) → Gains said now held →
-    Says (voice said held) (voice now []) []
-says-all said now held appended = record { sent = held; split = refl; said = appended }
 
 -- a front of it is said
 pub cuts-front : (said now : List ℕ) (held : List ℕ) (k : ℕ) → Gains said now (take k held) →

@@ -66,9 +66,6 @@ Contains-range : (count k : ℕ) → k < count → Contains (range_with_len 0 co
 Contains-range count k within = (k, omega (arith, length-range_with_len 0 count), get_or-range count k k within)
 
 module _ (alphabet : ℕ) (rules : List (ℕ × ℕ)) where
-  all_symbols : List ℕ
-  all_symbols = range_with_len 0 (symbol_count alphabet rules)
-
   pub symbols_in_order-permutation : IsPermutation (range_with_len 0 (symbol_count alphabet rules)) (symbols_in_order alphabet rules)
   unfolding symbols_in_order
   symbols_in_order-permutation =

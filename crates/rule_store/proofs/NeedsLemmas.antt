@@ -6,7 +6,7 @@ use Rattle.std.proofs.lemmas.Bool.Decides.{nat_tests}
 use Rattle.std.proofs.lemmas.List.{length-drop, length-take}
 use Rattle.step_count.specs.Reads.{Read, ReadsWithin, ofPeriod, ofRule, ofSymbol}
 use Rattle.rule_store.specs.Log.{log_of}
-use Rattle.rule_store.specs.Needs.{is_among, log_needs, places_of, rule_needs}
+use Rattle.rule_store.specs.Needs.{is_among, log_needs, places_of}
 use Rattle.rule_store.specs.declared.log_view.LogView.{LogView}
 
 -- a place of one range is among those of a wider one
@@ -37,12 +37,6 @@ pub log_needs-same : {few many : ℕ × ℕ} → few ≡ many → ReadsWithin (l
 log_needs-same same read needed = subst (λ (places : ℕ × ℕ). IsTrue (log_needs places read)) same needed
 
 module _ (may : Read → Bool) where
-  -- the reads of rules, where those of a log may be made
-  pub within-rules : (places : ℕ × ℕ) → ReadsWithin (log_needs places) may → ReadsWithin rule_needs may
-  within-rules places within (ofPeriod period) none = absurd (cc none)
-  within-rules places within (ofRule rule) is = within (ofRule rule) is
-  within-rules places within (ofSymbol place) none = absurd (cc none)
-
   -- the reads of a log, where those of more symbols may be made
   pub within-places : (few many : ℕ × ℕ) → many.0 ≤ few.0 → few.1 ≤ many.1 → ReadsWithin (log_needs many) may
       → ReadsWithin (log_needs few) may

@@ -7,12 +7,6 @@ use Rattle.rule_store.specs.declared.log_view.LogView.{LogView}
 abbrev pub is_among : ℕ × ℕ → ℕ → Bool
 is_among places place = nat_le places.0 place && nat_lt place places.1
 
--- the reads of rules
-abbrev pub rule_needs : Read → Bool
-rule_needs (ofPeriod period) = false
-rule_needs (ofRule rule) = true
-rule_needs (ofSymbol place) = false
-
 -- the reads of a log whose symbols stand at these places among all: of any rule, and of these symbols
 abbrev pub log_needs : ℕ × ℕ → Read → Bool
 log_needs places (ofPeriod period) = false

@@ -2,9 +2,9 @@
 use Rattle.std.proofs.Common.{◌≡◌, ℕ, ◌+◌, ◌<◌, ℤ, List, [], ◌∷◌, ◌++◌, All, length, map, take, get_or, set, refl, ap, sym, ◌∙◌, append_assoc, arith}
 use Rattle.std.specs.Prelude.{option_to_list, Option}
 use Rattle.std.specs.List.{cons_option, filter_map, refill, sum_by}
-use Rattle.std.proofs.lemmas.List.{append-nil, drop_all, length-map, take_all, take_more, take_more_set}
+use Rattle.std.proofs.lemmas.List.{append-nil, drop_all, length-map, take_all, take_more}
 use Rattle.std.proofs.lemmas.List.Elements.{All-set, filter_map-append}
-use Rattle.std.proofs.lemmas.List.Sums.{sum_by-append, sum_by_more_le}
+use Rattle.std.proofs.lemmas.List.Sums.{sum_by_more_le}
 use Rattle.std.proofs.Math.Seq.{map-set_same}
 use Rattle.list_laws.proofs.OptionLemmas.{append-option}
 use Rattle.track_types.specs.declared.region.Region.{Region}
@@ -56,15 +56,6 @@ pub turned-length : (rules : RulesView) (instant : ℤ) (region : Region) (befor
 turned-length rules instant region before now turned =
     sym (length-map now (seen_by rules instant region)) ∙ ap length turned.seen
     ∙ length-map before (seen_by rules instant region)
-
--- a sum over those that went on
-pub sum-more : (f : Seeker → ℕ) (seekers : List Seeker) (i : ℕ) (next : Seeker) → i < length seekers →
-    sum_by f (take (i + 1) (set seekers i next)) ≡ sum_by f (take i seekers) + f next
-sum-more f seekers i next within =
-    let last : sum_by f (next ∷ []) ≡ f next = omega arith in
-    ap (sum_by f) (take_more_set seekers i next within)
-    ∙ sum_by-append f (take i seekers) (next ∷ [])
-    ∙ ap (λ s. sum_by f (take i seekers) + s) last
 
 -- where none is left, each is over
 pub rest-none : (seekers : List Seeker) (i : ℕ) (d : Seeker) → i < length seekers → sum_by rest_in seekers ≡ 0 →

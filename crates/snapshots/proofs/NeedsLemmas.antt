@@ -1,5 +1,5 @@
 -- Which reads may be made where others may.
-use Rattle.std.proofs.Common.{◌≡◌, ℕ, ◌<◌, Bool, true, ◌&&◌, Option, Some, None, IsTrue, ap, arith, refl, subst, sym, ◌∙◌}
+use Rattle.std.proofs.Common.{◌≡◌, ℕ, ◌<◌, Bool, true, ◌&&◌, Option, Some, None, IsTrue, ap, arith, refl, subst, ◌∙◌}
 use Rattle.std.specs.Prelude.{get_or}
 use Rattle.std.proofs.lemmas.Bool.{and_parts}
 use Rattle.std.proofs.lemmas.Bool.Decides.{nat_tests}
@@ -10,7 +10,7 @@ use Rattle.track_types.specs.Frame.{periods_of}
 use Rattle.track_types.specs.declared.frame.Frame.{Frame}
 use Rattle.track_types.specs.declared.parts.Parts.{Parts}
 use Rattle.rule_store.specs.Needs.{is_among, log_needs}
-use Rattle.rule_store.proofs.NeedsLemmas.{is_among-none, is_among-within, within-places}
+use Rattle.rule_store.proofs.NeedsLemmas.{is_among-none, is_among-within}
 use Rattle.snapshots.specs.Needs.{block_places, is_found, is_of_block, is_of_logs, log_places, needs_in}
 use Rattle.snapshots.specs.Parts.{numbers_in, snapshot_in}
 use Rattle.snapshots.specs.Sound.{IsBlock, IsSnapshot}
@@ -66,20 +66,9 @@ module _ (may : Read → Bool) where
   within-period number allowed (ofRule rule) none = absurd (cc none)
   within-period number allowed (ofSymbol place) none = absurd (cc none)
 
-  -- the log of a block, where those of its period may be read
-  pub within-block : (view : SnapshotView) (block : Anchored) (places : ℕ × ℕ) → IsBlock view block
-      → places ≡ block_places (Some block) → ReadsWithin (log_needs (log_places view)) may → ReadsWithin (log_needs places) may
-  within-block view block places is same within =
-      subst (λ (p : ℕ × ℕ). ReadsWithin (log_needs p) may) (sym same)
-      (within-places may (block_places (Some block)) (log_places view) is.from is.to within)
-
   module _ (frame : Frame) (periods : ℕ → Bool) (symbols : ℕ → ℕ → Bool)
       (within : ReadsWithin (needs_in frame periods symbols) may) (number : ℕ) (known : number < periods_of frame)
       (passes : IsTrue (periods number)) where
-    -- what is kept of a period that passes
-    pub may-period : IsTrue (may (ofPeriod number))
-    may-period = within (ofPeriod number) passes
-
     -- a log, all of whose symbols pass in it
     pub may-log : (places : ℕ × ℕ) → ((place : ℕ) → IsTrue (is_among places place) → IsTrue (symbols number place))
         → ReadsWithin (log_needs places) may

@@ -91,8 +91,3 @@ unflawed-valid parts valid =
     let first = or-none (grammar_flaw (rules_in parts)) _ (check_flaw_valid parts valid) in
     let second = or-none (total_flaw parts) _ first.1 in
     (first.0, second.0, (or-none (snapshots_flaw (snapshots_in parts)) (logs_flaw parts) second.1).0)
-
--- shaped parts have no flaw if and only if they are sound
-pub check_flaw-none : (parts : Parts) → IsShaped parts
-    → (check_flaw parts ≡ None → IsSound parts) × (IsSound parts → check_flaw parts ≡ None)
-check_flaw-none parts shaped = (IsSound-unflawed parts shaped, check_flaw-sound parts shaped)

@@ -8,12 +8,11 @@ use Rattle.snapshots.specs.SoundParts.{IsValid}
 use Rattle.index_format.specs.Answers.{Gives}
 use Rattle.track_types.specs.declared.format_fault.FormatFault.{FormatFault}
 use Rattle.track_types.specs.declared.format_fault.FormatFault.TheVariants as fault
-use Rattle.index_file.specs.File.{file_bytes, parts_in, IsFormed}
-use Rattle.index_format.proofs.BitLemmas.{IsBytes}
-use Rattle.index_file.proofs.FileLaws.{parts_in-again, parts_in-takes}
+use Rattle.index_file.specs.File.{parts_in}
+use Rattle.index_file.proofs.FileLaws.{parts_in-again}
 use Rattle.track_index.specs.CheckFlaws.{check_flaw}
-use Rattle.track_index.specs.Opening.{first_flaw, flaw_after, IsFile}
-use Rattle.track_index.proofs.CheckLemmas.{check_flaw-sound, IsSound-unflawed}
+use Rattle.track_index.specs.Opening.{first_flaw, IsFile}
+use Rattle.track_index.proofs.CheckLemmas.{check_flaw-sound}
 use Rattle.track_index.proofs.OpeningLemmas.{first_flaw-read}
 
 -- the bytes of an index file are read as its parts
@@ -36,21 +35,3 @@ decided read whole (Err (fault.Flaw flaw)) same valid is fault =
     let parts : whole ≡ read = cc in
     let flawed = ap check_flaw parts in
     absurd (cc)
-
--- bytes without a flaw are those of an index file
-pub IsFile-unflawed : (bytes : List ℕ) → IsBytes bytes → first_flaw bytes ≡ None
-    → (parts : Parts) × IsFile bytes parts
-unfolding flaw_after
-IsFile-unflawed bytes fits none = by_read (parts_in bytes) (parts_in-takes bytes fits) none
-  where
-    by_read : (read : Result Parts Flaw) → IfOk read (λ parts. IsFormed parts × (bytes ≡ file_bytes parts))
-        → flaw_after read ≡ None → (parts : Parts) × IsFile bytes parts
-    by_read (Ok parts) taken none = (
-      parts,
-      record {
-        valid = record { shaped = taken.0.shaped; sound = IsSound-unflawed parts taken.0.shaped none };
-        formed = taken.0;
-        spelled = taken.1;
-      },
-    )
-    by_read (Err flaw) taken none = absurd (cc)

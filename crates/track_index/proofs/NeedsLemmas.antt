@@ -67,12 +67,6 @@ module _ (parts : Parts) (index next behind : ℕ) where
     | inr left ↦ left
   ]
 
-  -- the log that is walked over is another one of the same places
-  pub walk-same : (few many : ℕ × ℕ) → few ≡ many
-      → ReadsWithin (walk_needs few parts index next behind) (walk_needs many parts index next behind)
-  walk-same few many same read needed =
-      subst (λ (p : ℕ × ℕ). IsTrue (walk_needs p parts index next behind read)) same needed
-
   module _ (within : behind ≤ periods_of parts.frame) (less : next < behind) where
     -- what is needed after the next period is needed before
     left-more : ReadsWithin (left_needs parts index (next + 1) behind) (left_needs parts index next behind)

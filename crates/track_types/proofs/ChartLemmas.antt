@@ -1,15 +1,12 @@
 -- The first and the last instant of a chart.
-use Rattle.std.proofs.Common.{◌≡◌, ◌<◌, List, [], ◌∷◌, length, All, arith}
+use Rattle.std.proofs.Common.{◌≡◌, ◌<◌, List, [], ◌∷◌, length, arith}
 use Rattle.std.specs.Prelude.{◌≤ℤ◌}
 use Rattle.std.proofs.lemmas.Int.{ints}
-use Rattle.std.proofs.lemmas.List.{length-map}
-use Rattle.std.proofs.lemmas.List.Elements.{All-head, All-map, All-weaker}
-use Rattle.track_types.specs.Chart.{ChartView, IsChart}
-use Rattle.track_types.specs.Near.{IsNear, IsRowInRange}
-use Rattle.track_types.specs.Quantities.{first_of, instants_of, last_of, span_of}
+use Rattle.std.proofs.lemmas.List.Elements.{All-head}
+use Rattle.track_types.specs.Quantities.{first_of, last_of, span_of}
 use Rattle.track_types.specs.Timeline.{last_from}
 use Rattle.track_types.specs.declared.row.Row.{Row}
-use Rattle.track_types.proofs.QuantityLemmas.{first_of-below, greatest_keeps, last_of-above, least_keeps}
+use Rattle.track_types.proofs.QuantityLemmas.{first_of-below, last_of-above}
 
 -- the first instant of rows is not after the last one
 first-last : (rows : List Row) → 0 < length rows → first_of rows ≤ℤ last_of rows
@@ -22,19 +19,3 @@ first-last (row ∷ rows) some =
 -- the last of so many instants, from the first on, is that of the rows
 pub last_from-span_of : (rows : List Row) → 0 < length rows → last_from (first_of rows) (span_of rows) ≡ last_of rows
 last_from-span_of rows some = let ordered = first-last rows some in omega (arith, ints, ordered)
-
-module _ (chart : ChartView) (is : IsChart chart) where
-  instants-near : All IsNear (instants_of chart.rows)
-  instants-near =
-      All-map IsNear (λ row. row.instant) chart.rows
-      (All-weaker IsRowInRange (λ row. IsNear row.instant) (λ row range. range.instant) chart.rows is.in_range)
-
-  instants-some : 0 < length (instants_of chart.rows)
-  instants-some = rw length-map is.some
-
-  -- both are near 0
-  pub first_of-near : IsNear (first_of chart.rows)
-  first_of-near = least_keeps IsNear (instants_of chart.rows) instants-some instants-near
-
-  pub last_of-near : IsNear (last_of chart.rows)
-  last_of-near = greatest_keeps IsNear (instants_of chart.rows) instants-some instants-near

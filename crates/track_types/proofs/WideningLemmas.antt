@@ -1,24 +1,11 @@
 -- Which cells a widened box has.
 use Rattle.std.proofs.Common.{◌≡◌, ℕ, ◌≤◌, true, arith, ◌≤ℤ◌, ◌-ℤ◌}
-use Rattle.std.specs.Prelude.{unsigned_abs}
 use Rattle.std.proofs.lemmas.Int.{ints}
 use Rattle.track_types.specs.Region.{in_box}
 use Rattle.track_types.specs.Widening.{widened}
 use Rattle.track_types.specs.declared.cell.Cell.{Cell}
 use Rattle.track_types.specs.declared.cell_box.CellBox.{CellBox}
 use Rattle.track_types.proofs.RegionLemmas.{in_box-bounds, in_box-from}
-
--- a cell that is at most `width` columns and `width` lines away from a cell of a box is in the widened box
-pub in_box-widened : (width : ℕ) (area : CellBox) (inside cell : Cell) → in_box area inside ≡ true →
-    unsigned_abs (cell.x -ℤ inside.x) ≤ width → unsigned_abs (cell.y -ℤ inside.y) ≤ width → in_box (widened width area) cell ≡ true
-in_box-widened width area inside cell held across along =
-    let box = in_box-bounds area inside held in
-    in_box-from (widened width area) cell (record {
-      left = omega (arith, ints, box.left);
-      right = omega (arith, ints, box.right);
-      below = omega (arith, ints, box.below);
-      above = omega (arith, ints, box.above);
-    })
 
 -- a box round another one that is widened as far or farther has each cell of the widened inner one
 pub in_box-wider : (inner outer : CellBox) (n m : ℕ) (cell : Cell) → n ≤ m → outer.x1 ≤ℤ inner.x1 → inner.x2 ≤ℤ outer.x2 →
