@@ -3,15 +3,15 @@ use Rattle.std.proofs.Common.{◌≡◌, ℕ, zero, suc, ◌+◌, ◌<◌, ◌�
 use Rattle.std.proofs.Common.{ap, ◌∙◌, arith, All, subst, inl, inr, ◌⊎◌}
 use Rattle.std.specs.Prelude.{nat_lt, if◌then◌else◌}
 use Rattle.std.proofs.lemmas.Option.{same_Some, slice_get_within}
-use Rattle.box_tree.specs.Kinds.{link_kind}
+use Rattle.box_tree.specs.NodeKinds.{link_kind}
 use Rattle.box_tree.specs.Levels.{children, digits, run}
 use Rattle.k2_tree.specs.Areas.{IsBoxInside}
 use Rattle.box_tree.specs.Places.{Places, box_at}
 use Rattle.box_tree.specs.Held.{Held, IsBranch, IsBucket, IsKindFor, Nodes, Stand}
 use Rattle.box_tree.specs.Tree.{levels_below}
 use Rattle.box_tree.specs.Building.{IsMade, IsMadeKind, IsTask, IsTaskAt}
-use Rattle.box_tree.specs.declared.kind.Kind.{Kind}
-use Rattle.box_tree.specs.declared.kind.Kind.TheVariants.{Bucket, Branch}
+use Rattle.box_tree.specs.declared.node_kind.NodeKind.{NodeKind}
+use Rattle.box_tree.specs.declared.node_kind.NodeKind.TheVariants.{Bucket, Branch}
 use Rattle.box_tree.specs.declared.task.Task.{Task}
 
 -- what holds of each node holds of nodes one after another
@@ -26,13 +26,13 @@ module _ (places : Places) (narrow : ℕ) (tasks : List Task) (nodes : Nodes)
     (made : (number : ℕ) → number < length tasks
     → IsMade places.codes places.boxes narrow tasks nodes.areas nodes.links number) where
   -- the kind at a cell, and at another square
-  kind-last : (task : Task) (kind : Kind) → task.below ≡ 0 → IsBucket places.codes 0 task.prefix task.low task.high
+  kind-last : (task : Task) (kind : NodeKind) → task.below ≡ 0 → IsBucket places.codes 0 task.prefix task.low task.high
       → IsMadeKind places.codes narrow tasks task kind → IsKindFor places nodes [] task.prefix kind
   unfolding IsKindFor
   kind-last task (Bucket low high) flat is its = record { low_is = its.0 ∙ is.low_is; high_is = its.1 ∙ is.high_is }
   kind-last task (Branch end mask) flat is its = let deep = its.deep in absurd (omega arith)
 
-  kind-upper : (task : Task) (kind : Kind) (width lower : ℕ) → task.below ≡ suc lower
+  kind-upper : (task : Task) (kind : NodeKind) (width lower : ℕ) → task.below ≡ suc lower
       → levels_below narrow (suc lower) ≡ width ∷ levels_below narrow lower
       → ((prefix number : ℕ) → IsTaskAt tasks lower prefix number
       → Held places nodes (levels_below narrow lower) prefix number)
@@ -66,7 +66,7 @@ module _ (places : Places) (narrow : ℕ) (tasks : List Task) (nodes : Nodes)
 
   -- a node that was made stands for its square, where its kind does
   node-made : (below prefix number : ℕ) → (stands : IsTaskAt tasks below prefix number)
-      → ((task : Task) (kind : Kind) → task.below ≡ below → IsTask places.codes narrow task
+      → ((task : Task) (kind : NodeKind) → task.below ≡ below → IsTask places.codes narrow task
       → IsMadeKind places.codes narrow tasks task kind
       → IsKindFor places nodes (levels_below narrow below) task.prefix kind)
       → Held places nodes (levels_below narrow below) prefix number

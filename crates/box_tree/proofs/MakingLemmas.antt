@@ -24,15 +24,15 @@ use Rattle.track_types.specs.declared.cell_box.CellBox.{CellBox}
 use Rattle.k2_tree.specs.Areas.{IsBoxInside}
 use Rattle.track_types.specs.declared.cell.Cell.{Cell}
 use Rattle.box_tree.specs.Boxes.{IsFrom}
-use Rattle.box_tree.specs.Kinds.{link_kind}
+use Rattle.box_tree.specs.NodeKinds.{link_kind}
 use Rattle.box_tree.specs.Levels.{children, digits, square_start, is_held, run, squares_in}
 use Rattle.box_tree.specs.Places.{box_at}
 use Rattle.box_tree.specs.Held.{Stand, mask_digits}
 use Rattle.box_tree.specs.Tree.{levels_below}
 use Rattle.box_tree.specs.Building.{BeginsWith, IsMade, IsMadeKind, IsMadeLink, IsMaking}
 use Rattle.box_tree.specs.Building.{IsTask, IsTaskAt, child_task, task_levels, task_squares}
-use Rattle.box_tree.specs.declared.kind.Kind.{Kind}
-use Rattle.box_tree.specs.declared.kind.Kind.TheVariants.{Bucket, Branch}
+use Rattle.box_tree.specs.declared.node_kind.NodeKind.{NodeKind}
+use Rattle.box_tree.specs.declared.node_kind.NodeKind.TheVariants.{Bucket, Branch}
 use Rattle.box_tree.specs.declared.task.Task.{Task}
 use Rattle.box_tree.proofs.BuildingLemmas.{Stand-weaker}
 use Rattle.box_tree.proofs.NodeLemmas.{squares_in-own}
@@ -53,7 +53,7 @@ stands-more tasks more below prefix number it = record {
 }
 
 -- so does what was made of it
-kind-more : (codes : List ℕ) (narrow : ℕ) (tasks more : List Task) (task : Task) (kind : Kind)
+kind-more : (codes : List ℕ) (narrow : ℕ) (tasks more : List Task) (task : Task) (kind : NodeKind)
     → IsMadeKind codes narrow tasks task kind → IsMadeKind codes narrow (tasks ++ more) task kind
 kind-more codes narrow tasks more task (Bucket low high) is = is
 kind-more codes narrow tasks more task (Branch end mask) is = record {
@@ -112,7 +112,7 @@ stand-pushed codes width task front (c ∷ cs) =
     )
 
 -- the kind that was made of a task, and what came after the others
-pub kind-made : (codes : List ℕ) (narrow : ℕ) (task : Task) (kind : Kind) (old new : List Task)
+pub kind-made : (codes : List ℕ) (narrow : ℕ) (task : Task) (kind : NodeKind) (old new : List Task)
     → IsTask codes narrow task
     → IsMadeLink codes narrow task kind old new → IsMadeKind codes narrow new task kind
 kind-made codes narrow task (Bucket low high) old new is its = (its.0, its.1, its.2)
@@ -246,7 +246,7 @@ child-is codes narrow width task q is some split its =
     }
 
 -- tasks that come after the others are tasks
-tasks-more : (codes : List ℕ) (narrow : ℕ) (task : Task) (kind : Kind) (old new : List Task) → IsTask codes narrow task
+tasks-more : (codes : List ℕ) (narrow : ℕ) (task : Task) (kind : NodeKind) (old new : List Task) → IsTask codes narrow task
     → IsMadeLink codes narrow task kind old new → All (IsTask codes narrow) old → All (IsTask codes narrow) new
 tasks-more codes narrow task (Bucket low high) old new is its all = subst (All (IsTask codes narrow)) (sym its.3) all
 tasks-more codes narrow task (Branch end mask) old new is its all =
@@ -304,7 +304,7 @@ making-next codes boxes narrow first old new areas links task area link is stand
       ];
     }
   where
-    begins : (codes : List ℕ) (narrow : ℕ) (task : Task) (kind : Kind) (old new : List Task)
+    begins : (codes : List ℕ) (narrow : ℕ) (task : Task) (kind : NodeKind) (old new : List Task)
         → IsMadeLink codes narrow task kind old new
         → BeginsWith old new
     begins codes narrow task (Bucket low high) old new its = record { rest = []; is = its.3 ∙ sym (append-nil old) }
@@ -315,7 +315,7 @@ making-next codes boxes narrow first old new areas links task area link is stand
         ∙ slice_get-append_add xs (x ∷ []) 0
 
 -- squares become fewer
-turns-split : (codes : List ℕ) (narrow : ℕ) (task : Task) (kind : Kind) (old new : List Task) (k : ℕ)
+turns-split : (codes : List ℕ) (narrow : ℕ) (task : Task) (kind : NodeKind) (old new : List Task) (k : ℕ)
     → IsTask codes narrow task
     → IsMadeLink codes narrow task kind old new → k + 1 ≤ length old
     → task_squares codes narrow (drop (k + 1) new)
@@ -343,7 +343,7 @@ turns-split codes narrow task (Branch end mask) old new k is its within =
     omega (arith, summed, below, own)
 
 -- fewer squares are left after a task
-pub turns-next : (codes : List ℕ) (narrow : ℕ) (task : Task) (kind : Kind) (old new : List Task) (k : ℕ)
+pub turns-next : (codes : List ℕ) (narrow : ℕ) (task : Task) (kind : NodeKind) (old new : List Task) (k : ℕ)
     → IsTask codes narrow task
     → slice_get old k ≡ Some task → IsMadeLink codes narrow task kind old new
     → task_squares codes narrow (drop (k + 1) new) < task_squares codes narrow (drop k old)

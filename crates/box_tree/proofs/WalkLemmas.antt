@@ -21,7 +21,7 @@ use Rattle.box_tree.specs.Places.{Ascends, Places, Square, square_worth, place_p
 use Rattle.box_tree.specs.Tree.{IsNodeOf, TreeView, child_limit, levels_below, levels_of, node_square, node_prefix, slots}
 use Rattle.box_tree.specs.Walk.{Fits, IsGivenWay, OpensSquare, IsNodeWalk, NodeWalkView, child_refs, turns_in}
 use Rattle.box_tree.specs.Walk.{node_walk_of}
-use Rattle.box_tree.specs.declared.kind.Kind.TheVariants.{Bucket, Branch}
+use Rattle.box_tree.specs.declared.node_kind.NodeKind.TheVariants.{Bucket, Branch}
 use Rattle.box_tree.specs.declared.node_ref.NodeRef.{NodeRef}
 use Rattle.box_tree.proofs.DigitsLemmas.{mask_digits-small}
 use Rattle.box_tree.proofs.NodeLemmas.{length-kept, square_worth-branch, square_worth-bucket}

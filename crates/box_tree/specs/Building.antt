@@ -8,7 +8,7 @@ use Rattle.k2_tree.specs.TreeBits.{code_limit}
 use Rattle.track_types.specs.Near.{IsBoxWithin}
 use Rattle.track_types.specs.declared.cell.Cell.{Cell}
 use Rattle.box_tree.specs.Boxes.{IsFrom}
-use Rattle.box_tree.specs.Kinds.{link_kind}
+use Rattle.box_tree.specs.NodeKinds.{link_kind}
 use Rattle.std.specs.Int.{bit_at}
 use Rattle.std.specs.List.{range_with_len, sum_by}
 use Rattle.box_tree.specs.Levels.{children, digits, square_start, is_held, run, squares_in}
@@ -16,8 +16,8 @@ use Rattle.box_tree.specs.Places.{Square, box_at, square_with}
 use Rattle.box_tree.specs.Held.{IsBranch, IsBucket, mask_digits}
 use Rattle.box_tree.specs.Tree.{levels_below}
 use Rattle.box_tree.specs.Cost.{bucket_limit}
-use Rattle.box_tree.specs.declared.kind.Kind.{Kind}
-use Rattle.box_tree.specs.declared.kind.Kind.TheVariants.{Bucket, Branch}
+use Rattle.box_tree.specs.declared.node_kind.NodeKind.{NodeKind}
+use Rattle.box_tree.specs.declared.node_kind.NodeKind.TheVariants.{Bucket, Branch}
 use Rattle.box_tree.specs.declared.task.Task.{Task}
 
 -- the levels below a task's square
@@ -52,7 +52,7 @@ pub record IsSplit (codes : List ℕ) (narrow : ℕ) (tasks : List Task) (task :
   pub branch : IsBranch codes (digits (levels_below narrow lower)) width task.prefix end mask (IsTaskAt tasks lower)
 
 -- what the kind that was made of a task says
-abbrev pub IsMadeKind : List ℕ → ℕ → List Task → Task → Kind → Type 0
+abbrev pub IsMadeKind : List ℕ → ℕ → List Task → Task → NodeKind → Type 0
 IsMadeKind codes narrow tasks task (Bucket low high) =
     (low ≡ task.low) × (high ≡ task.high) × ((task.below ≡ 0) ⊎ (high ≤ low + bucket_limit))
 IsMadeKind codes narrow tasks task (Branch end mask) = IsSplit codes narrow tasks task end mask
@@ -90,7 +90,7 @@ pub record IsSplitInto (codes : List ℕ) (width : ℕ) (task : Task) (mask : �
   pub pushed : new ≡ old ++ map (child_task codes width task) (children codes (task.level - width) width task.prefix)
 
 -- the kind of a node that is made of a task, and what it puts after the other tasks
-abbrev pub IsMadeLink : List ℕ → ℕ → Task → Kind → List Task → List Task → Type 0
+abbrev pub IsMadeLink : List ℕ → ℕ → Task → NodeKind → List Task → List Task → Type 0
 IsMadeLink codes narrow task (Bucket low high) old new =
     (low ≡ task.low) × (high ≡ task.high) × ((task.below ≡ 0) ⊎ (high ≤ low + bucket_limit)) × (new ≡ old)
 IsMadeLink codes narrow task (Branch end mask) old new =

@@ -6,12 +6,12 @@ use Rattle.std.specs.Int.{bit_at}
 use Rattle.std.specs.List.{range_with_len}
 use Rattle.track_types.specs.declared.cell_box.CellBox.{CellBox}
 use Rattle.k2_tree.specs.Areas.{IsBoxInside}
-use Rattle.box_tree.specs.Kinds.{link_kind}
+use Rattle.box_tree.specs.NodeKinds.{link_kind}
 use Rattle.box_tree.specs.Levels.{children, digits, square_start, run}
 use Rattle.box_tree.specs.Places.{Places, box_at}
 use Rattle.box_tree.specs.Cost.{bucket_limit}
-use Rattle.box_tree.specs.declared.kind.Kind.{Kind}
-use Rattle.box_tree.specs.declared.kind.Kind.TheVariants.{Bucket, Branch}
+use Rattle.box_tree.specs.declared.node_kind.NodeKind.{NodeKind}
+use Rattle.box_tree.specs.declared.node_kind.NodeKind.TheVariants.{Bucket, Branch}
 
 -- nodes: their boxes and their links
 pub record Nodes : Type 0 where
@@ -41,18 +41,18 @@ pub record IsBranch (codes : List ℕ) (n level prefix end mask : ℕ) (held : �
   pub each : Stand held first (children codes n level prefix)
 
 -- a cell is always a bucket
-abbrev pub IsLast : List ℕ → ℕ → Kind → Type 0
+abbrev pub IsLast : List ℕ → ℕ → NodeKind → Type 0
 IsLast codes prefix (Bucket low high) = IsBucket codes 0 prefix low high
 IsLast codes prefix (Branch end mask) = ⊥
 
 -- another square is one where it has few places
-abbrev pub IsUpper : List ℕ → ℕ → ℕ → ℕ → (ℕ → ℕ → Type 0) → Kind → Type 0
+abbrev pub IsUpper : List ℕ → ℕ → ℕ → ℕ → (ℕ → ℕ → Type 0) → NodeKind → Type 0
 IsUpper codes n level prefix held (Bucket low high) =
     IsBucket codes (level + n) prefix low high × (high ≤ low + bucket_limit)
 IsUpper codes n level prefix held (Branch end mask) = IsBranch codes n level prefix end mask held
 
 -- a node stands, and its box has the boxes of all places of its square
-pub record IsNode (places : Places) (nodes : Nodes) (n prefix number : ℕ) (IsKind : Kind → Type 0) : Type 0 where
+pub record IsNode (places : Places) (nodes : Nodes) (n prefix number : ℕ) (IsKind : NodeKind → Type 0) : Type 0 where
   pub area : CellBox
   pub link : ℕ × ℕ
   pub area_is : slice_get nodes.areas number ≡ Some area
@@ -61,7 +61,7 @@ pub record IsNode (places : Places) (nodes : Nodes) (n prefix number : ℕ) (IsK
   pub kind : IsKind (link_kind link)
 
 -- what the kind of a node says of it, by descent on the levels below its square
-unfoldable pub IsKindFor : Places → Nodes → List ℕ → ℕ → Kind → Type 0
+unfoldable pub IsKindFor : Places → Nodes → List ℕ → ℕ → NodeKind → Type 0
 IsKindFor places nodes [] prefix = IsLast places.codes prefix
 IsKindFor places nodes (level ∷ levels) prefix =
     IsUpper places.codes (digits levels) level prefix

@@ -2,7 +2,7 @@ pub mod Cost
 pub mod Tests
 pub mod Levels
 pub mod Places
-pub mod Kinds
+pub mod NodeKinds
 pub mod Held
 pub mod Boxes
 pub mod Tree

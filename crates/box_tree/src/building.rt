@@ -4,7 +4,7 @@ ghost use Rattle.box_tree.specs.Building.{child_task, BeginsWith, IsTaskAt, IsMa
 ghost use Rattle.box_tree.specs.Building.{IsPushed, IsSplitInto, IsTask, task_levels};
 ghost use Rattle.box_tree.specs.Boxes.{IsFrom};
 ghost use Rattle.track_types.specs.declared.cell.Cell.{Cell};
-ghost use Rattle.box_tree.specs.Kinds.{link_kind};
+ghost use Rattle.box_tree.specs.NodeKinds.{link_kind};
 ghost use Rattle.box_tree.specs.Levels.{children, digits, square_start};
 ghost use Rattle.box_tree.specs.Places.{Ascends, box_at};
 ghost use Rattle.box_tree.specs.Tree.{code_at, levels_below, AreCells};
@@ -15,7 +15,7 @@ ghost use Rattle.std.specs.List.{range_with_len};
 ghost use Rattle.k2_tree.specs.Pruning.{place_among};
 ghost use Rattle.k2_tree.specs.TreeBits.{code_limit};
 
-use crate::kind::{BUCKET, BUCKET_LIMIT};
+use crate::node_kind::{BUCKET, BUCKET_LIMIT};
 use crate::task::Task;
 use k2_tree::{column_of, fan_of, row_of};
 use std::alloc::Global;

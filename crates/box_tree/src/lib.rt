@@ -8,7 +8,7 @@
 
 mod boxes;
 mod building;
-mod kind;
+mod node_kind;
 mod node_ref;
 mod node_walk;
 mod search;
@@ -16,7 +16,7 @@ mod task;
 mod tree;
 mod walk;
 
-pub use kind::Kind;
+pub use node_kind::NodeKind;
 pub use node_ref::{NodeRef, SLOTS};
 pub use search::Search;
 pub use tree::BoxTree;

@@ -8,7 +8,7 @@ ghost use Rattle.box_tree.specs.Tree.{IsNodeOf, levels_of, node_square, slots, w
 ghost use Rattle.box_tree.specs.Places.{ArePlaces};
 ghost use Rattle.box_tree.specs.Walk.{child_refs, OpensSquare};
 
-use crate::kind::Kind;
+use crate::node_kind::NodeKind;
 use crate::node_ref::{NodeRef, SLOTS};
 use crate::tree::BoxTree;
 use arrayvec::ArrayVec;
@@ -117,11 +117,11 @@ impl<'a> NodeWalk<'a> {
         ensures cost { steps.new ≤ steps.old + link_reads }
     {
         match self.tree.kind(&taken, steps) {
-            Kind::Bucket { low, high } => {
+            NodeKind::Bucket { low, high } => {
                 self.low = low;
                 self.high = high;
             }
-            Kind::Branch { end, mask } => {
+            NodeKind::Branch { end, mask } => {
                 self.tree.push_children(&taken, end, mask, &mut self.stack);
             }
         }

@@ -8,7 +8,7 @@ ghost use Rattle.box_tree.specs.Boxes.{IsFrom};
 ghost use Rattle.box_tree.specs.Cost.{box_reads, cell_reads, link_reads};
 ghost use Rattle.box_tree.specs.Held.{IsKindFor};
 ghost use Rattle.box_tree.specs.Walk.{IsGivenWay};
-ghost use Rattle.box_tree.specs.declared.kind.Kind.TheVariants.{Branch};
+ghost use Rattle.box_tree.specs.declared.node_kind.NodeKind.TheVariants.{Branch};
 ghost use Rattle.box_tree.specs.declared.node_ref.TheConstants.{SLOTS};
 ghost use Rattle.box_tree.specs.Tree.{AreLevels, IsNodeOf, child_limit, levels_below, levels_of};
 ghost use Rattle.box_tree.specs.Tree.{node_at, node_square, places_with, node_prefix, slots, whole};
@@ -18,7 +18,7 @@ ghost use Rattle.track_types.specs.declared.limit.TheConstants.{MAX_HEIGHT};
 
 use crate::boxes::Boxes;
 use crate::building::{begin, cells_of, make, width_of};
-use crate::kind::{Kind, kind_of};
+use crate::node_kind::{NodeKind, kind_of};
 use crate::node_ref::{NodeRef, SLOTS};
 use crate::node_walk::push_children;
 use arrayvec::ArrayVec;
@@ -143,7 +143,7 @@ impl BoxTree {
     }
 
     /// What a node is.
-    pub fn kind<L: Ledger>(&self, node: &NodeRef, steps: &mut Steps<L>) -> Kind
+    pub fn kind<L: Ledger>(&self, node: &NodeRef, steps: &mut Steps<L>) -> NodeKind
         requires { IsNodeOf self.now node.now }
         ensures kind { IsKindFor self.now.places self.now.nodes (levels_of self.now.narrow node.now)
             (node_prefix node.now) result }

@@ -7,7 +7,7 @@ use Rattle.std.proofs.lemmas.List.Elements.{filter-append}
 use Rattle.std.proofs.lemmas.List.Folds.{list_any-append}
 use Rattle.list_laws.proofs.FilterLemmas.{length-filter-le}
 use Rattle.track_types.specs.declared.stop.Stop.{Stop}
-use Rattle.encounter.specs.Side.{both_trees}
+use Rattle.encounter.specs.Party.{both_trees}
 use Rattle.encounter.specs.Span.{Span, BlockTree, close_count, count_with, is_close, tree_nodes, span_at}
 
 or-later : (a b : Bool) → b ≡ true → (a || b) ≡ true

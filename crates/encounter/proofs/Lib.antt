@@ -3,7 +3,7 @@ pub mod WalkedLemmas
 pub mod EarliestLemmas
 pub mod CountLemmas
 pub mod TurnLemmas
-pub mod SideLemmas
+pub mod PartyLemmas
 mod NeedsLemmas
 pub mod SeekingLemmas
 mod Examples

@@ -20,8 +20,8 @@ use Rattle.rule_store.specs.Log.{stop_at}
 use Rattle.track_types.specs.Meeting.{pairs_of}
 use Rattle.encounter.specs.Window.{have_met, meeting_among}
 use Rattle.encounter.specs.Span.{Span, BlockTree, are_common, are_near, box_distance, close_count, gap_of, is_close, tree_nodes, span_at}
-use Rattle.encounter.specs.Side.{IsStopInside, OpensNode, IsPassed, SideView, Tells, is_in_area, remaining}
-use Rattle.encounter.specs.Turn.{Finds, GoesOn, Sides, sides}
+use Rattle.encounter.specs.Party.{IsStopInside, OpensNode, IsPassed, PartyView, Tells, is_in_area, remaining}
+use Rattle.encounter.specs.Turn.{Finds, GoesOn, Parties, parties}
 use Rattle.encounter.proofs.PairLemmas.{Apart, first_pair-apart, first_pair-found, first_pair-left, first_pair-right}
 use Rattle.encounter.proofs.CountLemmas.{any-rule, any-stop, close_count-left, close_count-left_opened, close_count-right, close_count-right_opened}
 
@@ -116,7 +116,7 @@ module _ (from to : ℤ) (reach : ℕ) where
       let high = there i e inside in
       absurd (omega (arith, ints, m.same, low, high)))
 
-  module _ (left right : SideView) (tells : Tells left) (told : Tells right) where
+  module _ (left right : PartyView) (tells : Tells left) (told : Tells right) where
     -- the first of two nodes that are not close ends first
     first-apart : is_close from to reach left.top right.top ≡ false → left.top.end ≤ℤ right.top.end →
         Apart (have_met from to reach) left.own.stops (remaining right).stops
@@ -135,19 +135,19 @@ module _ (from to : ℤ) (reach : ℕ) where
         (λ i e inside. let its = (told.inside i e inside).before in omega (arith, ints, its, sooner)))
 
   -- the next node of a block is one of its nodes
-  top-in : (test : Span → Bool) (side : SideView) → Tells side → is_some side.top.area ≡ true → test side.top ≡ true →
-      list_any test (tree_nodes (remaining side)) ≡ true
-  top-in test side tells some holds = elim (cases_Bool side.opens) [
+  top-in : (test : Span → Bool) (party : PartyView) → Tells party → is_some party.top.area ≡ true → test party.top ≡ true →
+      list_any test (tree_nodes (remaining party)) ≡ true
+  top-in test party tells some holds = elim (cases_Bool party.opens) [
     | inl rule ↦
         let first = tells.rule rule in
-        subst (λ rules. list_any test (map span_at (remaining side).stops ++ rules) ≡ true) (sym first.is)
-        (any-rule test side.top (remaining side).stops first.rest holds)
+        subst (λ rules. list_any test (map span_at (remaining party).stops ++ rules) ≡ true) (sym first.is)
+        (any-rule test party.top (remaining party).stops first.rest holds)
     | inr leaf ↦
         let its = tells.leaf leaf some in
-        let stop = stop_at side.top.end side.cell in
-        subst (λ stops. list_any test (map span_at (stops ++ side.later.stops) ++ (side.own.rules ++ side.later.rules))
+        let stop = stop_at party.top.end party.cell in
+        subst (λ stops. list_any test (map span_at (stops ++ party.later.stops) ++ (party.own.rules ++ party.later.rules))
         ≡ true) (sym its.0)
-        (any-stop test stop side.later.stops (side.own.rules ++ side.later.rules)
+        (any-stop test stop party.later.stops (party.own.rules ++ party.later.rules)
         (ap test (sym its.1) ∙ holds))
   ]
 
@@ -177,14 +177,14 @@ module _ (from to : ℤ) (reach : ℕ) where
       (gap_of-one left.cell.x right.cell.x) parts.1) in
       and_from _ _ low (and_from _ _ same near)
 
-  module _ (left right : SideView) (tells : Tells left) (told : Tells right) (steps : ℕ) where
-    abbrev here : Sides
-    here = sides left right steps
+  module _ (left right : PartyView) (tells : Tells left) (told : Tells right) (steps : ℕ) where
+    abbrev here : Parties
+    here = parties left right steps
 
     -- the next node of the left block is passed, where it ends first
     module _ (apart : is_close from to reach left.top right.top ≡ false) (sooner : left.top.end ≤ℤ right.top.end) where
-      pub passed-left : (new : SideView) (reads : ℕ) → IsPassed left new → reads + new.unread ≤ steps + left.unread →
-          GoesOn from to reach here (sides new right reads)
+      pub passed-left : (new : PartyView) (reads : ℕ) → IsPassed left new → reads + new.unread ≤ steps + left.unread →
+          GoesOn from to reach here (parties new right reads)
       unfolding meeting_among
       passed-left new reads passed cost =
           let none = first-apart left right tells told apart sooner in
@@ -199,8 +199,8 @@ module _ (from to : ℤ) (reach : ℕ) where
             fewer = omega (arith, passed.fewer);
           }
 
-      pub ended-left : (new : SideView) (reads : ℕ) → left.later.stops ≡ [] → reads + new.unread ≤ steps + left.unread →
-          Finds from to reach here (sides new right reads) None
+      pub ended-left : (new : PartyView) (reads : ℕ) → left.later.stops ≡ [] → reads + new.unread ≤ steps + left.unread →
+          Finds from to reach here (parties new right reads) None
       unfolding meeting_among pairs_of
       ended-left new reads end cost =
           let none = first-apart left right tells told apart sooner in
@@ -216,8 +216,8 @@ module _ (from to : ℤ) (reach : ℕ) where
 
     -- so is that of the right block
     module _ (apart : is_close from to reach left.top right.top ≡ false) (sooner : right.top.end ≤ℤ left.top.end) where
-      pub passed-right : (new : SideView) (reads : ℕ) → IsPassed right new → reads + new.unread ≤ steps + right.unread →
-          GoesOn from to reach here (sides left new reads)
+      pub passed-right : (new : PartyView) (reads : ℕ) → IsPassed right new → reads + new.unread ≤ steps + right.unread →
+          GoesOn from to reach here (parties left new reads)
       unfolding meeting_among
       passed-right new reads passed cost =
           let none = second-apart left right tells told apart sooner in
@@ -232,8 +232,8 @@ module _ (from to : ℤ) (reach : ℕ) where
             fewer = omega (arith, passed.fewer);
           }
 
-      pub ended-right : (new : SideView) (reads : ℕ) → right.later.stops ≡ [] → reads + new.unread ≤ steps + right.unread →
-          Finds from to reach here (sides left new reads) None
+      pub ended-right : (new : PartyView) (reads : ℕ) → right.later.stops ≡ [] → reads + new.unread ≤ steps + right.unread →
+          Finds from to reach here (parties left new reads) None
       unfolding meeting_among
       ended-right new reads end cost =
           let none = second-apart left right tells told apart sooner in
@@ -251,9 +251,9 @@ module _ (from to : ℤ) (reach : ℕ) where
       near = both-some left.top.area right.top.area (and_parts (are_common from to left.top right.top)
           (are_near reach left.top.area right.top.area) close).1
 
-      pub opened-left : (new : SideView) (reads : ℕ) → OpensNode left new →
+      pub opened-left : (new : PartyView) (reads : ℕ) → OpensNode left new →
           reads + new.unread ≤ steps + 1 + left.unread →
-          GoesOn from to reach here (sides new right reads)
+          GoesOn from to reach here (parties new right reads)
       opened-left new reads opened cost =
           let old = remaining left in
           let now = remaining new in
@@ -271,9 +271,9 @@ module _ (from to : ℤ) (reach : ℕ) where
             fewer = omega (arith, opened.fewer);
           }
 
-      pub opened-right : (new : SideView) (reads : ℕ) → OpensNode right new →
+      pub opened-right : (new : PartyView) (reads : ℕ) → OpensNode right new →
           reads + new.unread ≤ steps + 1 + right.unread →
-          GoesOn from to reach here (sides left new reads)
+          GoesOn from to reach here (parties left new reads)
       opened-right new reads opened cost =
           let old = remaining right in
           let now = remaining new in
@@ -292,13 +292,13 @@ module _ (from to : ℤ) (reach : ℕ) where
           }
 
     -- the window ends before either next node
-    after-begin : (side : SideView) → Tells side → All (λ stop. side.top.begin <ℤ stop.instant) (remaining side).stops
-    after-begin side its =
-        All-append (λ stop. side.top.begin <ℤ stop.instant) side.own.stops side.later.stops
+    after-begin : (party : PartyView) → Tells party → All (λ stop. party.top.begin <ℤ stop.instant) (remaining party).stops
+    after-begin party its =
+        All-append (λ stop. party.top.begin <ℤ stop.instant) party.own.stops party.later.stops
         (λ k d within. (its.inside k d within).after)
         (λ k d within. let behind = its.later k d within in omega (arith, ints, behind, its.ordered))
 
-    pub over-left : to ≤ℤ left.top.begin → (new : Sides) → new.steps ≤ steps → Finds from to reach here new None
+    pub over-left : to ≤ℤ left.top.begin → (new : Parties) → new.steps ≤ steps → Finds from to reach here new None
     unfolding meeting_among
     over-left over new cost =
         let lefts = (remaining left).stops in
@@ -312,7 +312,7 @@ module _ (from to : ℤ) (reach : ℕ) where
           reads = omega (arith, cost);
         }
 
-    pub over-right : to ≤ℤ right.top.begin → (new : Sides) → new.steps ≤ steps → Finds from to reach here new None
+    pub over-right : to ≤ℤ right.top.begin → (new : Parties) → new.steps ≤ steps → Finds from to reach here new None
     unfolding meeting_among
     over-right over new cost =
         let lefts = (remaining left).stops in
@@ -328,7 +328,7 @@ module _ (from to : ℤ) (reach : ℕ) where
 
     -- neither is a rule
     pub found-both : is_close from to reach left.top right.top ≡ true → left.opens ≡ false → right.opens ≡ false →
-        (new : Sides) → new.steps ≤ steps →
+        (new : Parties) → new.steps ≤ steps →
         Finds from to reach here new (Some (stop_at left.top.end left.cell, stop_at right.top.end right.cell))
     unfolding meeting_among
     found-both close one other new cost =

@@ -3,7 +3,7 @@ pub mod Walked
 pub mod WalkedCost
 pub mod Window
 pub mod Span
-pub mod Side
+pub mod Party
 pub mod NodeSpan
 pub mod Turn
 pub mod MeetCost

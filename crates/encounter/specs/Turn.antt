@@ -3,32 +3,32 @@ use Rattle.std.specs.Prelude.{◌≡◌, ℕ, ◌+◌, ◌<◌, ◌≤◌, ℤ, 
 use Rattle.track_types.specs.declared.stop.Stop.{Stop}
 use Rattle.track_types.specs.Meeting.{meeting_at}
 use Rattle.encounter.specs.Window.{meeting_among}
-use Rattle.encounter.specs.Side.{SideView, remaining}
+use Rattle.encounter.specs.Party.{PartyView, remaining}
 use Rattle.encounter.specs.Span.{close_count}
 use Rattle.encounter.specs.declared.pairing.Turn.{Turn}
 use Rattle.encounter.specs.declared.pairing.Turn.TheVariants as turn
 
 -- the first meeting of what remains of two blocks
-abbrev pub meeting_ahead : ℤ → ℤ → ℕ → SideView → SideView → Option (Stop × Stop)
+abbrev pub meeting_ahead : ℤ → ℤ → ℕ → PartyView → PartyView → Option (Stop × Stop)
 meeting_ahead from to reach left right =
     meeting_among from to reach (remaining left).stops (remaining right).stops
 
 -- how much going through what remains reads at most
-abbrev pub reads_ahead : ℤ → ℤ → ℕ → SideView → SideView → ℕ
+abbrev pub reads_ahead : ℤ → ℤ → ℕ → PartyView → PartyView → ℕ
 reads_ahead from to reach left right =
     (left.unread + right.unread) + close_count from to reach (remaining left) (remaining right)
 
 -- two blocks, and the reads so far
-pub record Sides : Type 0 where
-  pub left : SideView
-  pub right : SideView
+pub record Parties : Type 0 where
+  pub left : PartyView
+  pub right : PartyView
   pub steps : ℕ
 
 -- two blocks, after so many reads
-abbrev pub sides : SideView → SideView → ℕ → Sides
-sides left right steps = record { left = left; right = right; steps = steps }
+abbrev pub parties : PartyView → PartyView → ℕ → Parties
+parties left right steps = record { left = left; right = right; steps = steps }
 
-module _ (from to : ℤ) (reach : ℕ) (old new : Sides) where
+module _ (from to : ℤ) (reach : ℕ) (old new : Parties) where
   -- the same first meeting is ahead, for reads from the budget
   pub record GoesOn : Type 0 where
     pub same : meeting_ahead from to reach old.left old.right ≡ meeting_ahead from to reach new.left new.right
@@ -49,7 +49,7 @@ module _ (from to : ℤ) (reach : ℕ) (old new : Sides) where
       (pair : Stop × Stop) × (meeting ≡ meeting_at pair) × Finds (Some pair)
 
 -- What turns that have found nothing have done: the same first meeting is ahead, for reads from their budget.
-pub record IsMeeting (found : Option (Stop × Stop)) (budget : ℕ) (from to : ℤ) (reach : ℕ) (left right : SideView)
+pub record IsMeeting (found : Option (Stop × Stop)) (budget : ℕ) (from to : ℤ) (reach : ℕ) (left right : PartyView)
     (steps : ℕ) : Type 0 where
   pub same : found ≡ meeting_ahead from to reach left right
   pub reads : steps + reads_ahead from to reach left right ≤ budget

@@ -3,10 +3,10 @@ ghost use Rattle.step_count.specs.Reads.{ReadsWithin};
 ghost use Rattle.track_types.specs.Meeting.{meeting_at};
 ghost use Rattle.track_types.specs.declared.limit.TheConstants.{MAX_REACH};
 ghost use Rattle.rule_store.specs.Needs.{log_needs};
-ghost use Rattle.encounter.specs.Turn.{IsTurned, meeting_ahead, sides, reads_ahead};
+ghost use Rattle.encounter.specs.Turn.{IsTurned, meeting_ahead, parties, reads_ahead};
 
 use crate::block_node::BlockNode;
-use crate::side::Side;
+use crate::party::Party;
 use crate::window::Window;
 use step_count::{Reads, Steps};
 use track_types::Meeting;
@@ -22,8 +22,8 @@ pub enum Turn {
 /// The first meeting of two blocks. It reads the symbols of both logs, and rules that are close to a
 /// node of the other block.
 pub fn first_meeting<L: Reads>(
-    left: &mut Side<'_>,
-    right: &mut Side<'_>,
+    left: &mut Party<'_>,
+    right: &mut Party<'_>,
     window: &Window,
     steps: &mut Steps<L>,
 ) -> Option<Meeting>
@@ -47,8 +47,8 @@ pub fn first_meeting<L: Reads>(
 // Where the next nodes cannot meet, the one that ends first is passed, and at a tie the left. Else a
 // rule among them is opened; two stops are a meeting.
 fn take_turn<L: Reads>(
-    left: &mut Side<'_>,
-    right: &mut Side<'_>,
+    left: &mut Party<'_>,
+    right: &mut Party<'_>,
     window: &Window,
     steps: &mut Steps<L>,
 ) -> Turn
@@ -56,7 +56,7 @@ fn take_turn<L: Reads>(
     requires may { ReadsWithin (log_needs left.old.places) L.may }
     requires also { ReadsWithin (log_needs right.old.places) L.may }
     ensures turned { IsTurned window.now.from window.now.to window.now.reach
-        (sides left.old right.old steps.old) (sides left.new right.new steps.new) result }
+        (parties left.old right.old steps.old) (parties left.new right.new steps.new) result }
     ensures places { left.new.places ≡ left.old.places }
     ensures others { right.new.places ≡ right.old.places }
 {

@@ -13,7 +13,7 @@ ghost use Rattle.encounter.specs.Seeking.{EndsAt, meet_cost_between, meeting_bet
 ghost use Rattle.encounter.specs.Window.{meeting_among};
 
 use crate::pairing::first_meeting;
-use crate::side::Side;
+use crate::party::Party;
 use crate::window::Window;
 use object_track::{Periods, Placed};
 use snapshots::Stores;
@@ -136,7 +136,7 @@ fn meet_in_period<L: Reads>(
     };
     let mine = Placed::new(stores, period, &one);
     let theirs = Placed::new(stores, period, &other);
-    let mut left = Side::new(alloc, mine.log, mine.start)?;
-    let mut right = Side::new(alloc, theirs.log, theirs.start)?;
+    let mut left = Party::new(alloc, mine.log, mine.start)?;
+    let mut right = Party::new(alloc, theirs.log, theirs.start)?;
     Ok(first_meeting(&mut left, &mut right, window, steps))
 }

@@ -19,11 +19,11 @@ use Rattle.track_types.specs.Quantities.{anchors_of, elapsed, is_anchor, is_same
 use Rattle.track_types.specs.Row.{IsAscending, row_order}
 use Rattle.track_types.specs.declared.row.Row.{Row}
 use Rattle.track_types.proofs.RowLemmas.{row_order_total}
-use Rattle.gridding.specs.Block.{IsInSpan, block_of_row, is_of_block, period_end}
-use Rattle.gridding.specs.declared.counts.Block.{Block}
+use Rattle.gridding.specs.BlockRange.{IsInSpan, block_of_row, is_of_block, period_end}
+use Rattle.gridding.specs.declared.counts.BlockRange.{BlockRange}
 
 -- whether a row is of the block before, if there was one
-abbrev is_block_of : Option Block → Row → Bool
+abbrev is_block_of : Option BlockRange → Row → Bool
 is_block_of None row = false
 is_block_of (Some before) row = is_of_block before row
 
@@ -169,13 +169,13 @@ module _ (first : ℤ) (period : ℕ) where
   seen-block (Some before) row some above = earlier_block before row above.0 ∙ same_by_end before row some above
 
   -- how many terminals the blocks of rows have, where a block begins at each row that is not of the block before
-  pub terminals : ℕ → Option Block → List Row → ℕ
+  pub terminals : ℕ → Option BlockRange → List Row → ℕ
   terminals span before [] = 0
   terminals span before (row ∷ rest) =
       if is_block_of before row then terminals span before rest
       else (log_length first span period row + terminals span (Some (block_of_row first period row)) rest)
 
-  terminals-cons : (span : ℕ) (before : Option Block) (row : Row) (rest : List Row) →
+  terminals-cons : (span : ℕ) (before : Option BlockRange) (row : Row) (rest : List Row) →
       terminals span before (row ∷ rest)
       ≡ (if is_block_of before row then terminals span before rest
       else (log_length first span period row + terminals span (Some (block_of_row first period row)) rest))
@@ -183,7 +183,7 @@ module _ (first : ℤ) (period : ℕ) where
   terminals-cons span before row rest = refl
 
   -- where no row is left
-  pub terminals-none : (span : ℕ) (before : Option Block) (rows : List Row) → length rows < 1 →
+  pub terminals-none : (span : ℕ) (before : Option BlockRange) (rows : List Row) → length rows < 1 →
       terminals span before rows ≡ 0
   unfolding terminals
   terminals-none span before [] none = refl
@@ -253,7 +253,7 @@ module _ (first : ℤ) (period : ℕ) where
   own_block row some behind = grind (arith, nat_tests)
 
   -- a block's row is passed over, and any other row begins another block
-  terminals-after_one : (span : ℕ) (block : Block) (row : Row) (rest : List Row) (again : Bool) →
+  terminals-after_one : (span : ℕ) (block : BlockRange) (row : Row) (rest : List Row) (again : Bool) →
       is_of_block block row ≡ again →
       terminals span (Some block) rest ≡ terminals span None (drop (prefix_len (is_of_block block) rest) rest) →
       terminals span (Some block) (row ∷ rest)
@@ -265,7 +265,7 @@ module _ (first : ℤ) (period : ℕ) where
   terminals-after_one span block row rest false is others = rw is refl
 
   -- where a block's rows end, another block begins
-  terminals-after : (span : ℕ) (block : Block) (rows : List Row) →
+  terminals-after : (span : ℕ) (block : BlockRange) (rows : List Row) →
       terminals span (Some block) rows ≡ terminals span None (drop (prefix_len (is_of_block block) rows) rows)
   unfolding terminals
   terminals-after span block [] = refl

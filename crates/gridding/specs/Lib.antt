@@ -4,7 +4,7 @@ pub mod ChartOf
 pub mod GridLimit
 pub mod Recounting
 pub mod Survey
-pub mod Block
+pub mod BlockRange
 pub mod Origin
 pub mod PackedPlace
 pub mod Blocks

@@ -1,21 +1,21 @@
 ghost use Rattle.std.specs.Prelude.{◌≡◌, ◌≤◌, ◌≤ℤ◌, ◌+ℤ◌, All, drop, length, pos, sum_by};
 ghost use Rattle.std.specs.List.{prefix_len};
-ghost use Rattle.gridding.specs.Block.{BeginsBlock, IsInSpan, block_of_row, is_of_block};
+ghost use Rattle.gridding.specs.BlockRange.{BeginsBlock, IsInSpan, block_of_row, is_of_block};
 ghost use Rattle.track_types.specs.Limits.{limit_of};
 ghost use Rattle.track_types.specs.Quantities.{anchors_of, log_length};
 ghost use Rattle.track_types.specs.Row.{IsAscending};
 
 use track_types::{LimitKind, Row, Timeline};
 
-/// An object's rows in one period.
+/// Which rows a block has: those of an object in one period.
 #[derive(Clone, Copy)]
-pub struct Block {
+pub struct BlockRange {
     pub object: u32,
     /// The first instant after the period.
     pub end: i64,
 }
 
-impl Block {
+impl BlockRange {
     fn contains(self, row: &Row) -> bool
         ensures { result ≡ is_of_block self row.now }
     {
@@ -46,7 +46,7 @@ pub fn symbol_count(rows: &[Row], timeline: Timeline) -> u64
 
 // The rows after the first block of rows in order. An object has at most one row in an instant, so that the block
 // has no more rows than a period has instants.
-fn after_block<'a>(rows: &'a [Row], block: Block, period: u32) -> &'a [Row]
+fn after_block<'a>(rows: &'a [Row], block: BlockRange, period: u32) -> &'a [Row]
     requires ascending { IsAscending rows.now }
     requires begins { BeginsBlock block period rows.now }
     ensures { result.now ≡ drop (prefix_len (is_of_block block) rows.now) rows.now }
@@ -57,13 +57,13 @@ fn after_block<'a>(rows: &'a [Row], block: Block, period: u32) -> &'a [Row]
 }
 
 // The block of an anchor.
-fn block_of(anchor: &Row, timeline: Timeline) -> Block
+fn block_of(anchor: &Row, timeline: Timeline) -> BlockRange
     requires { IsInSpan timeline.first timeline.span anchor.now }
     ensures exact { result ≡ block_of_row timeline.first timeline.period anchor.now }
     ensures begins { result.end ≤ℤ (anchor.now.instant +ℤ pos timeline.period) }
 {
     let period = timeline.period_at(anchor.instant);
-    Block {
+    BlockRange {
         object: anchor.object,
         end: timeline.first_of(period) + i64::from(timeline.period),
     }

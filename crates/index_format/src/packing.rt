@@ -5,25 +5,25 @@ ghost use Rattle.index_format.specs.Spelling.{bit_bytes, bits_with};
 
 use track_types::Memory;
 
-/// Bits that wait until they fill a word, as a number, lowest first.
+/// A word that is filled in part: its bits as a number, lowest first.
 #[derive(Clone, Copy)]
-struct Waiting {
+struct PartialWord {
     bits: u64,
     len: u32,
     ghost low: { len < 64 },
     ghost small: { bits < 2 ^ len },
 }
 
-impl Waiting {
+impl PartialWord {
     /// No bits.
-    fn none() -> Waiting
+    fn none() -> PartialWord
         ensures { (before : List ℕ) → IsPacking before [] before result.bits result.len }
     {
-        Waiting { bits: 0, len: 0 }
+        PartialWord { bits: 0, len: 0 }
     }
 
     /// These bits with a number of `width` bits after them. A word that is full is appended.
-    fn then(self, out: &mut Vec<u8>, width: u32, number: u32) -> Result<Waiting, Memory>
+    fn then(self, out: &mut Vec<u8>, width: u32, number: u32) -> Result<PartialWord, Memory>
         requires narrow { width ≤ 32 }
         requires small { number < 2 ^ width }
         ensures { IfOk result (λ next. (before : List ℕ) (bits : List Bool)
@@ -33,14 +33,14 @@ impl Waiting {
         let joined = (u128::from(number) << self.len) + u128::from(self.bits);
         let len = self.len + width;
         if len < 64 {
-            return Ok(Waiting {
+            return Ok(PartialWord {
                 bits: joined as u64,
                 len,
             });
         }
         let word = (joined % (1 << 64)) as u64;
         out.extend_from_slice(&word.to_le_bytes())?;
-        Ok(Waiting {
+        Ok(PartialWord {
             bits: (joined >> 64) as u64,
             len: len - 64,
         })
@@ -64,9 +64,9 @@ pub fn put_packed(out: &mut Vec<u8>, width: u32, numbers: &[u32]) -> Result<(), 
     requires small { All (λ number. number < 2 ^ width) numbers.now }
     ensures { OnOk result (out.new.items ≡ out.old.items ++ bit_bytes (bits_with width numbers.now)) }
 {
-    let mut waiting = Waiting::none();
+    let mut word = PartialWord::none();
     for &number in numbers {
-        waiting = waiting.then(out, width, number)?;
+        word = word.then(out, width, number)?;
     }
-    waiting.end(out)
+    word.end(out)
 }

@@ -24,7 +24,7 @@ use Rattle.k2_tree.specs.Tree.{codes_in, Tree, codes_of, tree_of, IsStoredTree}
 use Rattle.k2_tree.specs.TreeSquares.{squares_of, holds_cell, node_width, child_at, least_cell_of, level_of, node_of}
 use Rattle.k2_tree.specs.TreeSquares.{prefix_of, square_number, IsSquareOf}
 use Rattle.k2_tree.specs.Digits.{digits_of}
-use Rattle.k2_tree.specs.Pending.{StandsAt}
+use Rattle.k2_tree.specs.PendingChildren.{StandsAt}
 use Rattle.k2_tree.specs.Pruning.{child_prefixes, child_nodes}
 use Rattle.k2_tree.proofs.MortonLemmas.{highest}
 use Rattle.k2_tree.proofs.CellLemmas.{codes_back}

@@ -14,7 +14,7 @@ use Rattle.k2_tree.specs.TreeBits.{prefixes, Rises}
 use Rattle.k2_tree.specs.Squares.{Node, node}
 use Rattle.k2_tree.specs.Tree.{Tree, codes_of, IsTree}
 use Rattle.k2_tree.specs.TreeSquares.{squares_of, least_cell_of, level_of, node_of, prefix_of, square_number, IsSquareOf}
-use Rattle.k2_tree.specs.Pending.{StandsAt, nodes_of, IsNextOf}
+use Rattle.k2_tree.specs.PendingChildren.{StandsAt, nodes_of, IsNextOf}
 use Rattle.k2_tree.specs.SquareWalk.{AreOpen, IsOpen, IsTakenChild, IsSquareWalk, found_nodes, open_nodes, top_nodes}
 use Rattle.k2_tree.specs.Pruning.{leaf_of, place_among}
 use Rattle.k2_tree.proofs.MortonLemmas.{morton_of-cell_of}
@@ -26,10 +26,10 @@ use Rattle.k2_tree.proofs.ChildLemmas.{one_top}
 use Rattle.k2_tree.proofs.OnLemmas.{IsOn}
 use Rattle.k2_tree.proofs.StoredLemmas.{corner_is}
 use Rattle.k2_tree.specs.declared.square.Square.{Square}
-use Rattle.k2_tree.specs.declared.pending.Pending.{Pending}
+use Rattle.k2_tree.specs.declared.pending_children.PendingChildren.{PendingChildren}
 
 -- the square opened last comes first
-pub open_nodes-append : (front : List Pending) (last : Pending)
+pub open_nodes-append : (front : List PendingChildren) (last : PendingChildren)
     → open_nodes (front ++ last ∷ []) ≡ nodes_of last ++ open_nodes front
 unfolding open_nodes
 open_nodes-append [] last = sym (append-nil (nodes_of last))
@@ -43,13 +43,13 @@ open_nodes-nil = refl
 
 module _ (squares : List Node) (base : Cell) where
   -- each level has at most one open square, and the cells none
-  length-open : (level : ℕ) (stack : List Pending) → AreOpen squares base level stack → length stack ≤ level
+  length-open : (level : ℕ) (stack : List PendingChildren) → AreOpen squares base level stack → length stack ≤ level
   length-open level [] are = omega arith
   length-open level (first ∷ later) are =
       omega (arith, first.inner, are.0.high, length-open (level - 1) later are.1)
 
   -- what holds of the square opened last, and of those before it
-  pub AreOpen-parted : (level : ℕ) (front : List Pending) (last : Pending)
+  pub AreOpen-parted : (level : ℕ) (front : List PendingChildren) (last : PendingChildren)
       → AreOpen squares base level (front ++ last ∷ [])
       → AreOpen squares base level front × IsOpen squares base (level - length front) last
   AreOpen-parted level [] last are = (tt, subst (λ l. IsOpen squares base l last) (omega arith) are.0)
@@ -59,7 +59,7 @@ module _ (squares : List Node) (base : Cell) where
       ((are.0, rest.0), subst (λ l. IsOpen squares base l last) depth rest.1)
 
   -- one square more is open
-  AreOpen-append : (level : ℕ) (front : List Pending) (last : Pending)
+  AreOpen-append : (level : ℕ) (front : List PendingChildren) (last : PendingChildren)
       → AreOpen squares base level front → IsOpen squares base (level - length front) last
       → AreOpen squares base level (front ++ last ∷ [])
   AreOpen-append level [] last are is = (subst (λ l. IsOpen squares base l last) (omega arith) is, tt)
@@ -68,7 +68,7 @@ module _ (squares : List Node) (base : Cell) where
       (are.0, AreOpen-append (level - 1) front last are.1 (subst (λ l. IsOpen squares base l last) depth is))
 
   -- a child that was taken from the square opened last
-  pub taken : (level : ℕ) (front : List Pending) {old new : Pending} {child : Square}
+  pub taken : (level : ℕ) (front : List PendingChildren) {old new : PendingChildren} {child : Square}
       → AreOpen squares base level (front ++ old ∷ [])
       → IsNextOf old child new → new.square ≡ old.square → IsTakenChild squares base level child (front ++ new ∷ [])
   taken level front {old} {new} {child} are next square =
@@ -89,13 +89,13 @@ module _ (squares : List Node) (base : Cell) where
       }
 
 -- no more squares are open than there are levels above the cells
-pub length-walk : {tree : Tree} {whole : Option Square} {stack : List Pending} → IsSquareWalk tree whole stack
+pub length-walk : {tree : Tree} {whole : Option Square} {stack : List PendingChildren} → IsSquareWalk tree whole stack
     → length stack ≤ MAX_HEIGHT
 length-walk {tree} {whole} {stack} walk =
     omega (arith, length-open (squares_of tree) tree.base tree.height stack walk.later, walk.low)
 
 -- a square of the tree is opened
-pub opened : {tree : Tree} (whole : Option Square) (stack : List Pending) (pending : Pending) {square : Square}
+pub opened : {tree : Tree} (whole : Option Square) (stack : List PendingChildren) (pending : PendingChildren) {square : Square}
     → IsSquareWalk tree whole stack → is_none whole ≡ true → IsSquareOf tree square
     → level_of square + length stack ≤ tree.height → pending.square ≡ square
     → StandsAt (squares_of tree) pending.number (nodes_of pending) → IsSquareWalk tree whole (stack ++ pending ∷ [])
@@ -111,7 +111,7 @@ opened {tree} None stack pending walk begun of depth same stands = record {
 }
 
 -- its children come first
-pub opened_nodes : (whole : Option Square) (stack : List Pending) (pending : Pending) → is_none whole ≡ true
+pub opened_nodes : (whole : Option Square) (stack : List PendingChildren) (pending : PendingChildren) → is_none whole ≡ true
     → found_nodes whole ++ open_nodes (stack ++ pending ∷ [])
     ≡ nodes_of pending ++ (found_nodes whole ++ open_nodes stack)
 opened_nodes (Some whole) stack pending begun = absurd (false≢true begun)

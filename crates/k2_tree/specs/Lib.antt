@@ -8,7 +8,7 @@ pub mod Groups
 pub mod Tree
 pub mod TreeSquares
 pub mod Digits
-pub mod Pending
+pub mod PendingChildren
 pub mod SquareWalk
 pub mod Flaws
 pub mod Checking

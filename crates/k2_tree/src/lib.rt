@@ -17,7 +17,7 @@ mod groups;
 mod keep;
 mod listing;
 mod morton_code;
-mod pending;
+mod pending_children;
 mod pruned;
 mod square;
 mod square_walk;

@@ -7,7 +7,7 @@ ghost use Rattle.k2_tree.specs.SquareWalk.{AreOpen, IsTakenChild, found_nodes, o
 ghost use Rattle.k2_tree.specs.Pruning.{child_nodes, leaf_of, IsLeafOf};
 ghost use Rattle.k2_tree.specs.Cost.{child_reads};
 
-use crate::pending::Pending;
+use crate::pending_children::PendingChildren;
 use crate::square::Square;
 use crate::tree::K2Tree;
 use arrayvec::ArrayVec;
@@ -29,7 +29,7 @@ pub struct SquareWalk<'a> {
     tree: &'a K2Tree,
     // The square of the whole grid, until it was visited.
     whole: Option<Square>,
-    stack: ArrayVec<Pending, LEVELS>,
+    stack: ArrayVec<PendingChildren, LEVELS>,
 }
 
 impl<'a> Model for SquareWalk<'a> {
@@ -99,7 +99,7 @@ impl<'a> SquareWalk<'a> {
 }
 
 // Takes the next child of the squares that are open, of the one opened last first.
-fn next_child(stack: &mut ArrayVec<Pending, LEVELS>) -> Option<Square>
+fn next_child(stack: &mut ArrayVec<PendingChildren, LEVELS>) -> Option<Square>
     requires fits { length stack.old.items ≤ LEVELS }
     ensures none { IfNone result (open_nodes stack.old.items ≡ []) }
     ensures nodes { open_nodes stack.old.items ≡ found_nodes result ++ open_nodes stack.new.items }

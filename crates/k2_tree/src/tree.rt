@@ -7,7 +7,7 @@ ghost use Rattle.k2_tree.specs.Squares.{node};
 ghost use Rattle.k2_tree.specs.Areas.{IsBoxInside};
 ghost use Rattle.k2_tree.specs.Tree.{codes_of, tree_bits, tree_with, IsTree};
 ghost use Rattle.k2_tree.specs.TreeSquares.{holds_cell, squares_of, node_width, area_of, child_at, least_cell_of, level_of, node_of, IsSquareOf};
-ghost use Rattle.k2_tree.specs.Pending.{StandsAt, nodes_of};
+ghost use Rattle.k2_tree.specs.PendingChildren.{StandsAt, nodes_of};
 ghost use Rattle.k2_tree.specs.Flaws.{tree_flaw, StandsFor, IsTreeFault};
 ghost use Rattle.k2_tree.specs.Pruning.{child_nodes, kept_leaves, leaves_of, passes_at, square_count, wanted_of, IsKeptFor};
 ghost use Rattle.k2_tree.specs.Pruned.{pruned_budget, pruned_left, pruned_tree};
@@ -26,7 +26,7 @@ use crate::groups::{fan_of, group_start, square_at, width_below};
 use crate::keep::Keep;
 use crate::listing::{Listing, cells_of_spots, codes_of_spots, spots_in};
 use crate::morton_code::{cell_at, codes_of_cells, is_in_grid, morton};
-use crate::pending::Pending;
+use crate::pending_children::PendingChildren;
 use crate::pruned::Pruned;
 use crate::square::Square;
 use crate::square_walk::SquareWalk;
@@ -344,7 +344,7 @@ impl K2Tree {
         &self,
         square: Square,
         steps: &mut Steps<L>,
-    ) -> Pending
+    ) -> PendingChildren
         requires of { IsSquareOf self.now square }
         requires inner { 1 ≤ level_of square }
         ensures square { result.square ≡ square }
@@ -357,6 +357,6 @@ impl K2Tree {
         let place = group_start(self.upper, square.number());
         let digits = bits.window(place, fan_of(width), steps);
         let number = bits.rank1(place, steps) + 1;
-        Pending::new(square, width, digits, number)
+        PendingChildren::new(square, width, digits, number)
     }
 }

@@ -117,14 +117,14 @@ fn push_standing<L: Reads>(
         { touched.touches(area) },
     )?;
     let test = RegionTest::new(near_region(region), contains, may_touch);
-    let window = Window {
+    let search = TailInterval {
         index,
         tail,
         from: window.0,
         to: window.1,
         test: &test,
     };
-    window.push_standing(alloc, hits, found, steps)
+    search.push_standing(alloc, hits, found, steps)
 }
 
 // The region of a question, shown to be near enough for both of its tests.
@@ -136,9 +136,9 @@ fn near_region(region: &Region) -> Region
     *region
 }
 
-// A window and a region about which an index and a tail are asked.
+// An interval that an index with a tail is asked for: its window and its region.
 #[derive(Clone, Copy)]
-struct Window<'a> {
+struct TailInterval<'a> {
     index: IndexRef<'a>,
     tail: &'a Tail,
     from: i64,
@@ -146,7 +146,7 @@ struct Window<'a> {
     test: &'a RegionTest,
 }
 
-impl<'a> Window<'a> {
+impl<'a> TailInterval<'a> {
     // Appends to what was found what stands of the index's hits.
     fn push_standing<L: Reads>(
         &self,

@@ -17,9 +17,9 @@ ghost use Rattle.live_tail.specs.SmallRows.{rows_in};
 use crate::chunk::{Chunk, chunks_of};
 use crate::outline::Outline;
 use crate::packing::{by_instant, small_rows};
+use crate::row_search::RowSearch;
 use crate::small_row::{Origin, SmallRow, distance};
 use crate::small_rows::SmallRows;
-use crate::sought::Sought;
 use std::alloc::Global;
 use std::marker::Model;
 use track_types::{Cell, Chart, Extent, Hit, Memory, Region};
@@ -150,13 +150,13 @@ impl Tail {
         requires { IsRegionWithin region.now }
         ensures { IfOk result (λ hits. HaveFirst (rows_of_tail self.now) from to region.now hits.items) }
     {
-        let sought = Sought { from, to, region };
+        let search = RowSearch { from, to, region };
         let between = self.rows_between(from, to);
         let mut found = Vec::new(alloc);
         if between.len() < self.chunks.len() / CHUNKS_FOR_A_ROW {
-            sought.push_hits_of(between, &mut found)?;
+            search.push_hits_of(between, &mut found)?;
         } else {
-            sought.push_hits(self.chunks.as_slice(), self.rows(), &mut found)?;
+            search.push_hits(self.chunks.as_slice(), self.rows(), &mut found)?;
         }
         Ok(found)
     }

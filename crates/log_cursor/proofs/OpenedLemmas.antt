@@ -23,7 +23,7 @@ use Rattle.log_cursor.specs.Opened.{AreGoneOver, Has, IfAny, IsGoneOver, IsOutsi
 use Rattle.log_cursor.specs.Pending.{PendingView}
 use Rattle.log_cursor.specs.Start.{IsWayOf, start_past}
 use Rattle.log_cursor.specs.Touching.{IsDrawnIn, IsHitOf, start_of, touches_at}
-use Rattle.log_cursor.specs.Turn.{IsWalking, has_hull, is_hit}
+use Rattle.log_cursor.specs.Turn.{IsWalking, has_hull, is_stop_in}
 use Rattle.log_cursor.specs.Walk.{opened_left, stops_left}
 use Rattle.log_cursor.specs.declared.opened.RuleAt.{RuleAt}
 use Rattle.log_cursor.specs.declared.start.Start.{Start}
@@ -191,9 +191,9 @@ module _ (rules : RulesView) (region : Region) (from : ℤ) (symbol : ℕ) (now 
 -- a symbol that has no cell of the region, or ends before the window, is passed over
 pub turn-past : (region : Region) {may : Cell → Option CellBox → Bool} {rules : RulesView} {stops : List Stop} {budget : ℕ}
     {from to : ℤ} {old now : PendingView} {at next : Start} {steps reads : ℕ} {entry : Entry} →
-    IsTurn (is_hit region) may rules stops budget from to old now at next steps reads entry →
+    IsTurn (is_stop_in region) may rules stops budget from to old now at next steps reads entry →
     IsOutside region at.cell (values_of rules entry.symbol) ⊎ (next.instant <ℤ from) →
-    IsWalking (is_hit region) may rules stops budget from to now next reads
+    IsWalking (is_stop_in region) may rules stops budget from to now next reads
 turn-past region {may} {rules} {stops} {budget} {from} {to} {old} {now} {at} {next} {steps} {reads} {entry} turn (inl apart) =
     turn-over turn (own_stops-outside region rules at entry.symbol from to apart)
 turn-past region turn (inr ended) = turn-before turn ended
@@ -201,8 +201,8 @@ turn-past region turn (inr ended) = turn-before turn ended
 -- a turn of a search that keeps rules
 module _ {region : Region} {rules : RulesView} {stops : List Stop} {budget all : ℕ} {from to : ℤ} {table : List (Option RuleAt)}
     {old now : PendingView} {at next : Start} {steps reads : ℕ} {entry : Entry}
-    (turn : IsTurn (is_hit region) (touches_at region) rules stops budget from to old now at next steps reads entry)
-    (draw : IsTurn (is_hit region) has_hull rules stops all from to old now at next steps reads entry)
+    (turn : IsTurn (is_stop_in region) (touches_at region) rules stops budget from to old now at next steps reads entry)
+    (draw : IsTurn (is_stop_in region) has_hull rules stops all from to old now at next steps reads entry)
     (gone : AreGoneOver rules region from table old.symbols at) where
   abbrev past : Start
   past = start_past at (values_of rules entry.symbol)
@@ -265,12 +265,12 @@ AreGoneOver-none rules region from table symbols at none = record {
 
 -- a search goes on from where a walk has come without a hit
 module _ (region : Region) (from to : ℤ) (start at : Start) (first now later : PendingView) (begun steps reads : ℕ)
-    (walking : IsWalking (is_hit region) has_hull first.rules (stops_left first.rules from to start first.symbols)
+    (walking : IsWalking (is_stop_in region) has_hull first.rules (stops_left first.rules from to start first.symbols)
     (begun + (first.unread + opened_left first.rules from to start first.symbols)) from to now at steps) where
-  pub is_hit-after : (found : Option Stop) → IfSome found (IsHitOf region from to at now later steps reads) →
+  pub IsHitOf-after : (found : Option Stop) → IfSome found (IsHitOf region from to at now later steps reads) →
       IfSome found (IsHitOf region from to start first later begun reads)
-  is_hit-after None found = tt
-  is_hit-after (Some hit) found =
+  IsHitOf-after None found = tt
+  IsHitOf-after (Some hit) found =
       let left = stops_left first.rules from to (start_of hit) later.symbols in
       let drawn : IsDrawnIn region (stops_left first.rules from to at now.symbols) left (Some hit) =
       rw walking.same at found.drawn in

@@ -11,7 +11,7 @@ use Rattle.rule_store.specs.Expansion.{values_of}
 use Rattle.rule_store.specs.Log.{log_values}
 use Rattle.log_cursor.specs.Pending.{PendingView}
 use Rattle.log_cursor.specs.Touching.{touches_at}
-use Rattle.log_cursor.specs.Turn.{IsWalking, has_hull, is_hit}
+use Rattle.log_cursor.specs.Turn.{IsWalking, has_hull, is_stop_in}
 use Rattle.log_cursor.specs.declared.opened.RuleAt.{RuleAt}
 use Rattle.log_cursor.specs.declared.start.Start.{Start}
 
@@ -58,6 +58,6 @@ pub record AreGoneOver (rules : RulesView) (region : Region) (from : ℤ) (table
 -- draws all stops, and each rule that is kept has been gone over as far.
 pub record IsSearching (region : Region) (rules : RulesView) (stops : List Stop) (budget all : ℕ) (from to : ℤ)
     (table : List (Option RuleAt)) (pending : PendingView) (at : Start) (steps : ℕ) : Type 0 where
-  pub walking : IsWalking (is_hit region) (touches_at region) rules stops budget from to pending at steps
-  pub drawing : IsWalking (is_hit region) has_hull rules stops all from to pending at steps
+  pub walking : IsWalking (is_stop_in region) (touches_at region) rules stops budget from to pending at steps
+  pub drawing : IsWalking (is_stop_in region) has_hull rules stops all from to pending at steps
   pub gone : AreGoneOver rules region from table pending.symbols at

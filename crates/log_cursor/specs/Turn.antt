@@ -27,8 +27,8 @@ abbrev pub has_hull : Cell → Option CellBox → Bool
 has_hull cell hull = is_some hull
 
 -- a search wants the stops in its region
-abbrev pub is_hit : Region → Stop → Bool
-is_hit region stop = in_region region stop.cell
+abbrev pub is_stop_in : Region → Stop → Bool
+is_stop_in region stop = in_region region stop.cell
 
 -- the instants of a node meet the window, and its box, placed where the node begins, passes a test
 abbrev pub is_opening : RulesView → (Cell → Option CellBox → Bool) → ℤ → ℤ → Start → RuleNode → Bool

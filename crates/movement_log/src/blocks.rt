@@ -1,5 +1,5 @@
 ghost use Rattle.std.specs.Prelude.{◌≡◌, ◌+◌, ◌-◌, ◌*◌, ◌<◌, ◌≤◌, IfOk, OnOk, length, sum_by};
-ghost use Rattle.gridding.specs.Block.{IsInSpan};
+ghost use Rattle.gridding.specs.BlockRange.{IsInSpan};
 ghost use Rattle.movement_log.specs.Blocks.{AreBlocks, anchors_by_object, log_length_of, object_place, period_end_of, place_of_object, row_at};
 ghost use Rattle.movement_log.specs.Logs.{block_anchors, head_of};
 ghost use Rattle.track_types.specs.Chart.{IsChart};

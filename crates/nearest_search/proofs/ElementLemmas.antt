@@ -46,7 +46,7 @@ use Rattle.snapshots.proofs.TrackLemmas.{on-tracks}
 use Rattle.snapshots.proofs.TracksLemmas.{count_is, kept-at, IsKeptAt}
 use Rattle.nearest_search.specs.Cost.{box_dist2}
 use Rattle.nearest_search.specs.Found.{near_in}
-use Rattle.nearest_search.specs.Reach.{queue_key, width_in_64_bits}
+use Rattle.nearest_search.specs.Vantage.{queue_key, width_in_64_bits}
 use Rattle.nearest_search.specs.Seeking.{Quest, IsElement, IsQuest, near_at, quest_tree}
 use Rattle.nearest_search.specs.declared.waiting.Element.{Element}
 use Rattle.nearest_search.specs.declared.waiting.Waiting.TheVariants.{Node as AtNode, Place as AtPlace}

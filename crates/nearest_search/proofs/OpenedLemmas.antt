@@ -16,7 +16,7 @@ use Rattle.box_tree.specs.Levels.{digits, run}
 use Rattle.box_tree.specs.Places.{square_places, square_with, square_worth}
 use Rattle.box_tree.specs.Tree.{IsNodeOf, TreeView, levels_of, node_at, node_square, node_prefix}
 use Rattle.box_tree.specs.Walk.{IsGivenWay, turns_in}
-use Rattle.box_tree.specs.declared.kind.Kind.TheVariants.{Bucket}
+use Rattle.box_tree.specs.declared.node_kind.NodeKind.TheVariants.{Bucket}
 use Rattle.box_tree.specs.declared.node_ref.NodeRef.{NodeRef}
 use Rattle.box_tree.proofs.NodeLemmas.{squares_in-own, square_worth-bucket, square_worth-cell}
 use Rattle.box_tree.proofs.WalkLemmas.{bucket-parts}

@@ -2,7 +2,7 @@
 pub mod Cost
 pub mod Needs
 pub mod Kept
-pub mod Reach
+pub mod Vantage
 pub mod Waiting
 pub mod Found
 pub mod Seeking

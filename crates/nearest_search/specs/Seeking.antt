@@ -29,8 +29,8 @@ use Rattle.snapshots.specs.declared.track_tree.TrackTree.{TrackTree}
 use Rattle.nearest_search.specs.Cost.{box_dist2, is_near_enough}
 use Rattle.nearest_search.specs.Found.{near_in}
 use Rattle.nearest_search.specs.Kept.{ClosestView}
-use Rattle.nearest_search.specs.Reach.{width_in_64_bits}
-use Rattle.nearest_search.specs.declared.sought.Sought.{Sought}
+use Rattle.nearest_search.specs.Vantage.{width_in_64_bits}
+use Rattle.nearest_search.specs.declared.near_search.NearSearch.{NearSearch}
 use Rattle.nearest_search.specs.declared.waiting.Element.{Element}
 use Rattle.nearest_search.specs.declared.waiting.Waiting.{Waiting}
 use Rattle.nearest_search.specs.declared.waiting.Waiting.TheVariants.{Node as AtNode, Place as AtPlace}
@@ -44,13 +44,13 @@ pub record Quest : Type 0 where
   pub cell : Cell
 
 -- what a search asks
-abbrev pub quest_of : Sought → Quest
-quest_of sought = record {
-  parts = sought.stores.now;
-  number = sought.period;
-  kept = sought.kept.now;
-  instant = sought.instant;
-  cell = sought.reach.cell;
+abbrev pub quest_of : NearSearch → Quest
+quest_of query = record {
+  parts = query.stores.now;
+  number = query.period;
+  kept = query.kept.now;
+  instant = query.instant;
+  cell = query.vantage.cell;
 }
 
 -- the blocks are those of the period, and the cell may be asked for
@@ -63,10 +63,10 @@ pub record IsQuest (quest : Quest) : Type 0 where
   pub asked : IsCellAsked quest.cell
 
 -- a search asks such a thing, and knows how far an object gets
-pub record IsSearch (sought : Sought) : Type 0 where
-  pub is : IsQuest (quest_of sought)
-  pub number : sought.kept.now.number.value ≡ sought.period
-  pub width : sought.reach.width ≡ width_in_64_bits sought.stores.now sought.period sought.instant
+pub record IsSearch (query : NearSearch) : Type 0 where
+  pub is : IsQuest (quest_of query)
+  pub number : query.kept.now.number.value ≡ query.period
+  pub width : query.vantage.width ≡ width_in_64_bits query.stores.now query.period query.instant
 
 -- a sum over what waits
 abbrev pub sum_waiting : (Waiting → ℕ) → List Element → ℕ

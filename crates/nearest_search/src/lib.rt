@@ -7,10 +7,10 @@
 #![tactic(auto)]
 
 mod closest;
+mod near_search;
 mod queue;
-mod reach;
 mod search;
-mod sought;
+mod vantage;
 mod waiting;
 
 pub use search::nearest;

@@ -8,8 +8,8 @@ ghost use Rattle.nearest_search.specs.Needs.{nearest_needs, period_near_needs};
 ghost use Rattle.nearest_search.specs.Seeking.{IsSearch};
 
 use crate::closest::Closest;
-use crate::reach::Reach;
-use crate::sought::Sought;
+use crate::near_search::NearSearch;
+use crate::vantage::Vantage;
 use crate::waiting::Waiting;
 use snapshots::Stores;
 use std::alloc::Global;
@@ -46,17 +46,17 @@ pub fn nearest<L: Reads>(
     let Some(kept) = stores.kept(period) else {
         return Ok(Vec::new(alloc));
     };
-    let sought = Sought {
+    let near_search = NearSearch {
         stores,
         period,
         kept,
         instant,
-        reach: Reach::new(stores, period, instant, cell),
+        vantage: Vantage::new(stores, period, instant, cell),
     };
-    sought.nearest(alloc, count, steps)
+    near_search.nearest(alloc, count, steps)
 }
 
-impl<'a> Sought<'a> {
+impl<'a> NearSearch<'a> {
     // The nearest, at most `count` of them, which is at least one.
     fn nearest<L: Reads>(
         &self,
@@ -70,9 +70,10 @@ impl<'a> Sought<'a> {
         requires logs { ReadsWithin (period_near_needs self.now.stores.now self.now.period
             self.now.instant) L.may }
         ensures ok { IfOk result (λ found. found.items
-            ≡ nears_of (chart_in self.now.stores.now).rows count self.now.instant self.now.reach.cell) }
+            ≡ nears_of (chart_in self.now.stores.now).rows count self.now.instant
+            self.now.vantage.cell) }
         ensures cost { steps.new ≤ steps.old + period_near_cost self.now.stores.now count
-            self.now.period self.now.instant self.now.reach.cell }
+            self.now.period self.now.instant self.now.vantage.cell }
     {
         let mut closest = Closest::new(alloc, count);
         let mut queue = self.begin(alloc, steps)?;

@@ -14,7 +14,7 @@ use Rattle.repair_grammar.specs.Threads.{at, live, stands_at, passed_from, AreNe
 use Rattle.repair_grammar.proofs.PassLemmas.{replacement_count-step, stands_first-whole, whole_pair, left_of_pair, right_of_pair, block_after_pass-none}
 use Rattle.repair_grammar.proofs.ThreadLemmas.{same_or, live-none, live-cut, live-here, not_first, not_last, after, after-place, after-gone, after-other, after-length, run_back_start}
 use Rattle.repair_grammar.proofs.FrontierLemmas.{stands-neighbours, frontier-moves, frontier-join, stands-joined, counts-joined}
-use Rattle.repair_grammar.specs.declared.text.TheConstants.{END, GAP}
+use Rattle.repair_grammar.specs.declared.symbol_row.TheConstants.{END, GAP}
 
 -- a pair that stands, stands inside, and its left symbol is there
 head_of : List ℕ → ℕ → ℕ

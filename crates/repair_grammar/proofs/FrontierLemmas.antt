@@ -10,7 +10,7 @@ use Rattle.repair_grammar.specs.Threads.{at, live, stands_at, passed_from, AreNe
 use Rattle.repair_grammar.proofs.PassLemmas.{block_after_pass-passed}
 use Rattle.repair_grammar.proofs.ThreadLemmas.{same_or, same_left, live-here, live-last_here, live-stands, live-gap, live-last_gap, live-neighbours, live-before, after, after-place, after-gone, after-other, kept, joined, rest-live, upto-live, was-live, is-live}
 use Rattle.repair_grammar.proofs.RunLemmas.{changed}
-use Rattle.repair_grammar.specs.declared.text.TheConstants.{GAP}
+use Rattle.repair_grammar.specs.declared.symbol_row.TheConstants.{GAP}
 
 pub stands_first-two : (pair : ℕ × ℕ) (x y : ℕ) (rest : List ℕ) → stands_first pair (x ∷ y ∷ rest) ≡ is_pair pair x y
 unfolding stands_first

@@ -18,7 +18,7 @@ use Rattle.repair_grammar.proofs.ThreadLemmas.{live-before, live-stands, upto-li
 use Rattle.repair_grammar.proofs.RunLemmas.{ends_odd-last}
 use Rattle.repair_grammar.proofs.FrontierLemmas.{counts-joined, stands-neighbours}
 use Rattle.repair_grammar.proofs.CountedLemmas.{counted-joined, passing-join}
-use Rattle.repair_grammar.specs.declared.text.TheConstants.{END, GAP}
+use Rattle.repair_grammar.specs.declared.symbol_row.TheConstants.{END, GAP}
 
 module _ (other : ℕ × ℕ) (plain : IsUnmarked other) where
   pub plain_times : (x y : ℕ) → times_of (plain_of x y) other ≡ times_of (Some (x, y)) other

@@ -9,7 +9,7 @@ use Rattle.repair_grammar.specs.Pairs.{count_of, places_of}
 use Rattle.repair_grammar.specs.Threads.{live, marked_row, IsCounted, IsUnmarked}
 use Rattle.repair_grammar.proofs.CoverLemmas.{counted_below}
 use Rattle.repair_grammar.proofs.RowLemmas.{replacement_count-row, block_after_pass-row}
-use Rattle.repair_grammar.specs.declared.text.TheConstants.{END}
+use Rattle.repair_grammar.specs.declared.symbol_row.TheConstants.{END}
 
 -- every pair counts in the row what it counts in the blocks
 module _ (limit : ℕ) (symbols : List ℕ) (blocks : List (List ℕ)) (count : ℕ × ℕ → ℕ) (places : ℕ × ℕ → List ℕ)

@@ -9,7 +9,7 @@ use Rattle.repair_grammar.specs.RePair.{is_pair, replacement_count, block_after_
 use Rattle.repair_grammar.specs.Threads.{at, live, marked_row, HasEnds}
 use Rattle.repair_grammar.proofs.PassLemmas.{replacement_count-none, replacement_count-other, block_after_pass-none}
 use Rattle.repair_grammar.proofs.ThreadLemmas.{live_first}
-use Rattle.repair_grammar.specs.declared.text.TheConstants.{END, GAP}
+use Rattle.repair_grammar.specs.declared.symbol_row.TheConstants.{END, GAP}
 
 row-cons : (blocks : List (List ℕ)) → (rest : List ℕ) × (marked_row blocks ≡ END ∷ rest)
 unfolding marked_row
@@ -200,9 +200,9 @@ new_live c (x ∷ symbols) fits new k = elim (cases_Bool (x == GAP)) [
     by zero here later = here
     by (suc j) here later = later j
 
-pub new_text : (c : ℕ) (symbols : List ℕ) (blocks : List (List ℕ)) → c < END → AreBelow c blocks →
+pub new_symbols : (c : ℕ) (symbols : List ℕ) (blocks : List (List ℕ)) → c < END → AreBelow c blocks →
     live symbols ≡ marked_row blocks → (k : ℕ) → (c == at symbols k) ≡ false
-new_text c symbols blocks fits below is =
+new_symbols c symbols blocks fits below is =
     new_live c symbols (omega (arith, fits)) (rw is (new_row c blocks fits below))
 
 -- every symbol of a row is a symbol or a mark, and marks stand at both ends

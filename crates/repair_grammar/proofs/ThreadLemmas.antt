@@ -8,7 +8,7 @@ use Rattle.std.proofs.lemmas.Bool.Decides.{nat_tests}
 use Rattle.repair_grammar.specs.Runs.{begins_odd, ends_odd}
 use Rattle.repair_grammar.specs.Threads.{at, live, turned_by, AreNeighbours, AreThreads, HasEnds, IsAround}
 use Rattle.repair_grammar.proofs.RunLemmas.{begins_odd-front, ends_odd-last}
-use Rattle.repair_grammar.specs.declared.text.TheConstants.{END, GAP}
+use Rattle.repair_grammar.specs.declared.symbol_row.TheConstants.{END, GAP}
 
 -- cases of two places
 pub same_or : (m n : ℕ) → (m ≡ n) ⊎ (m ≢ n)

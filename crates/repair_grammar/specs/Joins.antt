@@ -1,13 +1,13 @@
 -- What one join changes, as the code finds it.
 use Rattle.std.specs.Prelude.{ℕ, Bool, true, not, ◌&&◌, ◌==◌, nat_lt, if◌then◌else◌, Option, Some, None}
-use Rattle.repair_grammar.specs.declared.text.Text.{Text}
+use Rattle.repair_grammar.specs.declared.symbol_row.SymbolRow.{SymbolRow}
 use Rattle.repair_grammar.specs.Threads.{AreThreads, HasEnds}
-use Rattle.repair_grammar.specs.declared.text.TheConstants.{END}
+use Rattle.repair_grammar.specs.declared.symbol_row.TheConstants.{END}
 
--- the threads of a text, and the marks at its ends
-pub record IsText (text : Text) : Type 0 where
-  pub threads : AreThreads text.symbols.items text.next.items text.previous.items
-  pub ends : HasEnds text.symbols.items
+-- the threads of a row, and the marks at its ends
+pub record IsSymbolRow (row : SymbolRow) : Type 0 where
+  pub threads : AreThreads row.symbols.items row.next.items row.previous.items
+  pub ends : HasEnds row.symbols.items
 
 -- the pair of two symbols, if neither is a mark
 unfoldable pub plain_of : ℕ → ℕ → Option (ℕ × ℕ)

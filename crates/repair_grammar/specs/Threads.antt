@@ -4,7 +4,7 @@ use Rattle.repair_grammar.specs.RePair.{replacement_count, block_after_pass}
 use Rattle.std.specs.List.{Contains}
 use Rattle.repair_grammar.specs.Counts.{stands_first}
 use Rattle.repair_grammar.specs.Runs.{ends_odd}
-use Rattle.repair_grammar.specs.declared.text.TheConstants.{END, GAP}
+use Rattle.repair_grammar.specs.declared.symbol_row.TheConstants.{END, GAP}
 use Rattle.std.specs.Prelude.{◌≡◌, ℕ, ◌+◌, ◌<◌, ◌≤◌, Bool, true, false, ◌==◌, ◌&&◌, not, List, [], ◌∷◌, ◌++◌, length, filter, take, drop, slice_index_or, if◌then◌else◌}
 
 -- the symbol at a place

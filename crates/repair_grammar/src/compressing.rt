@@ -10,8 +10,8 @@ use crate::grammar::JoinedGrammar;
 use crate::keys::Keys;
 use crate::passing::replace_all;
 use crate::rows::{blocks_from, row};
+use crate::symbol_row::SymbolRow;
 use crate::tallying::count_row;
-use crate::text::Text;
 use std::alloc::Global;
 use track_types::{Memory, PairList};
 
@@ -27,14 +27,14 @@ pub fn by_places(
     requires small { alphabet ≤ MAX_SYMBOLS }
     ensures ok { IfOk result (λ grammar. grammar ≡ joined_grammar (re_pair alphabet (blocks_in blocks))) }
 {
-    let row = row(alloc, &blocks)?;
+    let symbols = row(alloc, &blocks)?;
     drop(blocks);
     // Places take 32 bits.
-    if row.len() >= u32::MAX as usize {
+    if symbols.len() >= u32::MAX as usize {
         return Err(Memory);
     }
-    let mut pairs = count_row(alloc, row.as_slice())?;
-    let mut text = Text::new(alloc, row)?;
+    let mut pairs = count_row(alloc, symbols.as_slice())?;
+    let mut row = SymbolRow::new(alloc, symbols)?;
     let mut keys = Keys::new(alloc);
     settle(&mut pairs, &mut keys)?;
     let mut rules = Vec::new(alloc);
@@ -43,19 +43,12 @@ pub fn by_places(
         let symbol = alphabet + rules.len() as u32;
         rules.push(pair)?;
         pairs.copy_places(pair, &mut places)?;
-        replace_all(
-            alloc,
-            &mut text,
-            &mut pairs,
-            places.as_slice(),
-            pair,
-            symbol,
-        )?;
+        replace_all(alloc, &mut row, &mut pairs, places.as_slice(), pair, symbol)?;
         settle(&mut pairs, &mut keys)?;
     }
     drop(pairs);
     Ok(JoinedGrammar {
         rules: PairList::new(rules),
-        blocks: blocks_from(alloc, text.into_symbols())?,
+        blocks: blocks_from(alloc, row.into_symbols())?,
     })
 }

@@ -5,12 +5,12 @@ ghost use Rattle.repair_grammar.specs.Kept.{noted_at, times_of};
 ghost use Rattle.repair_grammar.specs.Pairs.{count_of, places_of, HasCome};
 ghost use Rattle.repair_grammar.specs.Runs.{begins_odd, ends_odd};
 ghost use Rattle.repair_grammar.specs.Threads.{at, live, IsCounted, IsPassing, IsUnmarked};
-ghost use Rattle.repair_grammar.specs.Joins.{IsText, plain_of, gone_left, gone_right, only_if};
+ghost use Rattle.repair_grammar.specs.Joins.{IsSymbolRow, plain_of, gone_left, gone_right, only_if};
 ghost use Rattle.repair_grammar.specs.Joins.{counts_left};
-ghost use Rattle.repair_grammar.specs.declared.text.TheConstants.{END, GAP};
+ghost use Rattle.repair_grammar.specs.declared.symbol_row.TheConstants.{END, GAP};
 
 use crate::pairs::Pairs;
-use crate::text::{END, Text};
+use crate::symbol_row::{END, SymbolRow};
 use std::alloc::Global;
 use track_types::Memory;
 
@@ -28,18 +28,18 @@ pub fn plain_pair(left: u32, right: u32) -> Option<(u32, u32)>
 
 // The pair on the left that counts once less where the pair at a place goes.
 #[tactic(auto, unfolding(crate::specs::Joins::gone_left))]
-fn left_gone(text: &Text, place: usize, left: u32, pair: (u32, u32)) -> Option<(u32, u32)>
-    requires text { IsText text.now }
-    requires stands { at text.now.symbols.items place ≡ pair.0 }
-    requires inside { place < length text.now.symbols.items }
+fn left_gone(row: &SymbolRow, place: usize, left: u32, pair: (u32, u32)) -> Option<(u32, u32)>
+    requires row { IsSymbolRow row.now }
+    requires stands { at row.now.symbols.items place ≡ pair.0 }
+    requires inside { place < length row.now.symbols.items }
     requires plain { pair.0 < END }
-    ensures { result ≡ gone_left (ends_odd pair.0 false (live (take place text.now.symbols.items)))
+    ensures { result ≡ gone_left (ends_odd pair.0 false (live (take place row.now.symbols.items)))
         left pair.0 pair.1 }
 {
     if left != pair.0 {
         return plain_pair(left, pair.0);
     }
-    if pair.0 != pair.1 && text.is_odd_before(place, pair.0) {
+    if pair.0 != pair.1 && row.is_odd_before(place, pair.0) {
         Some((pair.0, pair.0))
     } else {
         None
@@ -48,18 +48,18 @@ fn left_gone(text: &Text, place: usize, left: u32, pair: (u32, u32)) -> Option<(
 
 // The pair on the right that counts once less, where the symbol at a place stands after the pair.
 #[tactic(auto, unfolding(crate::specs::Joins::gone_right))]
-fn right_gone(text: &Text, place: usize, right: u32, pair: (u32, u32)) -> Option<(u32, u32)>
-    requires text { IsText text.now }
-    requires stands { at text.now.symbols.items place < GAP }
-    requires inside { place < length text.now.symbols.items }
+fn right_gone(row: &SymbolRow, place: usize, right: u32, pair: (u32, u32)) -> Option<(u32, u32)>
+    requires row { IsSymbolRow row.now }
+    requires stands { at row.now.symbols.items place < GAP }
+    requires inside { place < length row.now.symbols.items }
     requires plain { pair.1 < END }
-    ensures { result ≡ gone_right (begins_odd pair.1 (live (drop place text.now.symbols.items)))
+    ensures { result ≡ gone_right (begins_odd pair.1 (live (drop place row.now.symbols.items)))
         pair.0 pair.1 right }
 {
     if right != pair.1 {
         return plain_pair(pair.1, right);
     }
-    if pair.0 != pair.1 && text.is_odd_from(place, pair.1) {
+    if pair.0 != pair.1 && row.is_odd_from(place, pair.1) {
         Some((pair.1, pair.1))
     } else {
         None
@@ -119,42 +119,42 @@ fn counts_next(before: u32, symbol: u32, odd: bool) -> bool
 /// ends at the place now is odd. For each pair at most one place is noted.
 pub fn join_at(
     alloc: Global,
-    text: &mut Text,
+    row: &mut SymbolRow,
     pairs: &mut Pairs,
     place: usize,
     pair: (u32, u32),
     symbol: u32,
     odd: bool,
 ) -> Result<bool, Memory>
-    requires text { IsText text.old }
-    requires counted { IsCounted text.old.symbols.items (count_of pairs.old) (places_of pairs.old) }
-    requires inside { place < length text.old.symbols.items }
-    requires left { at text.old.symbols.items place ≡ pair.0 }
-    requires right { at text.old.symbols.items (slice_index_or text.old.next.items place 0) ≡ pair.1 }
+    requires row { IsSymbolRow row.old }
+    requires counted { IsCounted row.old.symbols.items (count_of pairs.old) (places_of pairs.old) }
+    requires inside { place < length row.old.symbols.items }
+    requires left { at row.old.symbols.items place ≡ pair.0 }
+    requires right { at row.old.symbols.items (slice_index_or row.old.next.items place 0) ≡ pair.1 }
     requires plain { IsUnmarked pair }
     requires fits { symbol < END }
-    requires begins { (pair.0 == pair.1) ≡ true → (at text.old.symbols.items
-        (slice_index_or text.old.previous.items place 0) == pair.0) ≡ false }
-    requires new { (k : ℕ) → place ≤ k → (symbol == at text.old.symbols.items k) ≡ false }
+    requires begins { (pair.0 == pair.1) ≡ true → (at row.old.symbols.items
+        (slice_index_or row.old.previous.items place 0) == pair.0) ≡ false }
+    requires new { (k : ℕ) → place ≤ k → (symbol == at row.old.symbols.items k) ≡ false }
     requires other { (symbol == pair.1) ≡ false }
-    requires run { (at text.old.symbols.items
-        (slice_index_or text.old.previous.items place 0) == symbol) ≡ true →
-        odd ≡ ends_odd symbol false (live (take place text.old.symbols.items)) }
-    ensures text { OnOk result (IsText text.new) }
+    requires run { (at row.old.symbols.items
+        (slice_index_or row.old.previous.items place 0) == symbol) ≡ true →
+        odd ≡ ends_odd symbol false (live (take place row.old.symbols.items)) }
+    ensures row { OnOk result (IsSymbolRow row.new) }
     ensures counted { OnOk result
-        (IsCounted text.new.symbols.items (count_of pairs.new) (places_of pairs.new)) }
+        (IsCounted row.new.symbols.items (count_of pairs.new) (places_of pairs.new)) }
     ensures few { OnOk result ((other : ℕ × ℕ) →
         length (places_of pairs.new other) ≤ length (places_of pairs.old other) + 1) }
     ensures come { OnOk result (HasCome pairs.old pairs.new) }
-    ensures place { OnOk result (at text.new.symbols.items place ≡ symbol) }
+    ensures place { OnOk result (at row.new.symbols.items place ≡ symbol) }
     ensures run { IfOk result (λ odd.
-        odd ≡ ends_odd symbol false (live (take (place + 1) text.new.symbols.items))) }
+        odd ≡ ends_odd symbol false (live (take (place + 1) row.new.symbols.items))) }
     ensures passing { OnOk result ((first places : List ℕ) (q : ℕ) →
-        IsPassing first text.old.symbols.items pair symbol (place ∷ places) q →
+        IsPassing first row.old.symbols.items pair symbol (place ∷ places) q →
         ((k : ℕ) → Contains places k → place ≤ k) →
-        IsPassing first text.new.symbols.items pair symbol places (place + 1)) }
+        IsPassing first row.new.symbols.items pair symbol places (place + 1)) }
 {
-    let around = text.around(place);
+    let around = row.around(place);
     let counts = counts_next(around.before, symbol, odd);
     note_some(
         alloc,
@@ -171,8 +171,8 @@ pub fn join_at(
         true,
     )?;
     pairs.lower(pair);
-    lower_some(pairs, left_gone(text, place, around.before, pair));
-    lower_some(pairs, right_gone(text, around.right, around.after, pair));
-    text.join_around(place, around, symbol);
+    lower_some(pairs, left_gone(row, place, around.before, pair));
+    lower_some(pairs, right_gone(row, around.right, around.after, pair));
+    row.join_around(place, around, symbol);
     Ok(counts_next(around.before, symbol, !odd))
 }

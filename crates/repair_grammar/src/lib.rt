@@ -17,8 +17,8 @@ mod keys;
 mod pairs;
 mod passing;
 mod rows;
+mod symbol_row;
 mod tallying;
-mod text;
 
 pub use blocks::JoinedBlocks;
 pub use grammar::{Grammar, JoinedGrammar, compress, compress_joined};

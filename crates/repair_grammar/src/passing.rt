@@ -4,63 +4,63 @@ ghost use Rattle.std.specs.List.Sorted.{IsNonDecreasing};
 ghost use Rattle.repair_grammar.specs.RePair.{block_after_pass};
 ghost use Rattle.repair_grammar.specs.Pairs.{count_of, places_of, HasCome};
 ghost use Rattle.repair_grammar.specs.Threads.{at, live, stands_at, IsCounted, IsUnmarked};
-ghost use Rattle.repair_grammar.specs.Joins.{IsText};
-ghost use Rattle.repair_grammar.specs.declared.text.TheConstants.{END};
+ghost use Rattle.repair_grammar.specs.Joins.{IsSymbolRow};
+ghost use Rattle.repair_grammar.specs.declared.symbol_row.TheConstants.{END};
 
 use crate::joining::join_at;
 use crate::pairs::Pairs;
-use crate::text::Text;
+use crate::symbol_row::SymbolRow;
 use std::alloc::Global;
 use track_types::Memory;
 
 /// Puts the symbol in place of the pair wherever it stands. The places are in order.
 pub fn replace_all(
     alloc: Global,
-    text: &mut Text,
+    row: &mut SymbolRow,
     pairs: &mut Pairs,
     places: &[u32],
     pair: (u32, u32),
     symbol: u32,
 ) -> Result<(), Memory>
-    requires text { IsText text.old }
-    requires counted { IsCounted text.old.symbols.items (count_of pairs.old) (places_of pairs.old) }
+    requires row { IsSymbolRow row.old }
+    requires counted { IsCounted row.old.symbols.items (count_of pairs.old) (places_of pairs.old) }
     requires plain { IsUnmarked pair }
     requires fits { symbol < END }
-    requires new { (k : ℕ) → (symbol == at text.old.symbols.items k) ≡ false }
+    requires new { (k : ℕ) → (symbol == at row.old.symbols.items k) ≡ false }
     requires other { (symbol == pair.1) ≡ false }
     requires order { IsNonDecreasing places.now }
-    requires noted { (k : ℕ) → stands_at text.old.symbols.items pair k ≡ true → Contains places.now k }
-    ensures text { OnOk result (IsText text.new) }
+    requires noted { (k : ℕ) → stands_at row.old.symbols.items pair k ≡ true → Contains places.now k }
+    ensures row { OnOk result (IsSymbolRow row.new) }
     ensures counted { OnOk result
-        (IsCounted text.new.symbols.items (count_of pairs.new) (places_of pairs.new)) }
+        (IsCounted row.new.symbols.items (count_of pairs.new) (places_of pairs.new)) }
     ensures come { OnOk result (HasCome pairs.old pairs.new) }
     ensures all { OnOk result
-        (live text.new.symbols.items ≡ block_after_pass pair symbol (live text.old.symbols.items)) }
+        (live row.new.symbols.items ≡ block_after_pass pair symbol (live row.old.symbols.items)) }
 {
     let mut odd = false;
     'places: for place in places {
-        if !stands(text, *place as usize, pair) {
+        if !stands(row, *place as usize, pair) {
             continue;
         }
-        odd = join_at(alloc, text, pairs, *place as usize, pair, symbol, odd)?;
+        odd = join_at(alloc, row, pairs, *place as usize, pair, symbol, odd)?;
     }
     Ok(())
 }
 
 // Whether the pair stands at a place.
-fn stands(text: &Text, place: usize, pair: (u32, u32)) -> bool
-    requires text { IsText text.now }
+fn stands(row: &SymbolRow, place: usize, pair: (u32, u32)) -> bool
+    requires row { IsSymbolRow row.now }
     requires plain { IsUnmarked pair }
-    ensures yes { result ≡ true → (place < length text.now.symbols.items)
-        × (at text.now.symbols.items place ≡ pair.0)
-        × (at text.now.symbols.items (slice_index_or text.now.next.items place 0) ≡ pair.1) }
-    ensures no { result ≡ false → stands_at text.now.symbols.items pair place ≡ false }
+    ensures yes { result ≡ true → (place < length row.now.symbols.items)
+        × (at row.now.symbols.items place ≡ pair.0)
+        × (at row.now.symbols.items (slice_index_or row.now.next.items place 0) ≡ pair.1) }
+    ensures no { result ≡ false → stands_at row.now.symbols.items pair place ≡ false }
 {
-    if place >= text.symbols.len() {
+    if place >= row.symbols.len() {
         return false;
     }
-    if text.symbols[place] != pair.0 {
+    if row.symbols[place] != pair.0 {
         return false;
     }
-    text.symbols[text.next[place] as usize] == pair.1
+    row.symbols[row.next[place] as usize] == pair.1
 }

@@ -3,10 +3,10 @@ ghost use Rattle.std.specs.List.{sum};
 ghost use Rattle.repair_grammar.specs.Blocks.{blocks_in, joined_blocks};
 ghost use Rattle.repair_grammar.specs.RePair.{AreBelow};
 ghost use Rattle.repair_grammar.specs.Threads.{live, marked_row, HasEnds};
-ghost use Rattle.repair_grammar.specs.declared.text.TheConstants.{END};
+ghost use Rattle.repair_grammar.specs.declared.symbol_row.TheConstants.{END};
 
 use crate::blocks::JoinedBlocks;
-use crate::text::{END, GAP};
+use crate::symbol_row::{END, GAP};
 use std::alloc::Global;
 use track_types::{List32, Memory};
 

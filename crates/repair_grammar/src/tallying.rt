@@ -2,7 +2,7 @@ ghost use Rattle.std.specs.Prelude.{◌≡◌, ℕ, ◌^◌, ◌<◌, length, If
 ghost use Rattle.std.specs.List.{Contains};
 ghost use Rattle.repair_grammar.specs.Pairs.{count_of, places_of};
 ghost use Rattle.repair_grammar.specs.Threads.{at, HasEnds, IsCounted};
-ghost use Rattle.repair_grammar.specs.declared.text.TheConstants.{GAP};
+ghost use Rattle.repair_grammar.specs.declared.symbol_row.TheConstants.{GAP};
 
 use crate::joining::{note_some, plain_pair};
 use crate::pairs::Pairs;

@@ -20,8 +20,8 @@ IsHull packed (Some box) =
     (packed.x1 ≡ box.x1) × (packed.y1 ≡ box.y1) × (packed.x2 ≡ box.x2) × (packed.y2 ≡ box.y2)
 
 -- the entry in 32 bytes that has the numbers of one in 16
-abbrev pub widened : NarrowEntry → PackedEntry
-widened narrow = record {
+abbrev pub wide_entry : NarrowEntry → PackedEntry
+wide_entry narrow = record {
   duration = narrow.duration;
   depth = narrow.depth;
   dx = narrow.dx;
@@ -33,7 +33,7 @@ widened narrow = record {
 
 -- the entries of a list, however wide it keeps them
 unfoldable pub entries_of : PackedEntries → List PackedEntry
-entries_of (Narrow entries) = map widened entries.items
+entries_of (Narrow entries) = map wide_entry entries.items
 entries_of (Wide entries) = entries.items
 
 -- the packed entry is that of a symbol which stands for these values

@@ -21,11 +21,11 @@ pub(crate) struct NarrowEntry {
 }
 
 impl NarrowEntry {
-    ghost use Rattle.rule_store.specs.Stored.{widened};
+    ghost use Rattle.rule_store.specs.Stored.{wide_entry};
 
     /// Packs an entry closer, if its numbers fit.
     pub(crate) fn pack(entry: PackedEntry) -> Option<NarrowEntry>
-        ensures { IfSome result (λ narrow. widened narrow ≡ entry) }
+        ensures { IfSome result (λ narrow. wide_entry narrow ≡ entry) }
     {
         let duration = narrow_count(entry.duration)?;
         let depth = narrow_count(entry.depth)?;
@@ -50,7 +50,7 @@ impl NarrowEntry {
     /// The same entry in 32 bytes.
     #[inline(always)]
     pub(crate) fn widen(self) -> PackedEntry
-        ensures { result ≡ widened self }
+        ensures { result ≡ wide_entry self }
     {
         PackedEntry {
             duration: u32::from(self.duration),

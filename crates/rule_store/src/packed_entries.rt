@@ -1,5 +1,5 @@
 ghost use Rattle.std.specs.Prelude.{◌≡◌, [], ◌∷◌, ◌++◌, ◌<◌, is_ok, length, map, slice_index_or, IfOk, if◌then◌else◌};
-ghost use Rattle.rule_store.specs.Stored.{entries_of, widened};
+ghost use Rattle.rule_store.specs.Stored.{entries_of, wide_entry};
 
 use crate::narrow_entry::NarrowEntry;
 use crate::packed_entry::PackedEntry;
@@ -92,7 +92,7 @@ fn are_narrow(height: u32, period: u32) -> bool {
 
 // The same entries in 32 bytes each, with as much room.
 fn widen(list: &Vec<NarrowEntry>) -> Result<Vec<PackedEntry>, Memory>
-    ensures { IfOk result (λ wide. wide.items ≡ map widened list.now.items) }
+    ensures { IfOk result (λ wide. wide.items ≡ map wide_entry list.now.items) }
 {
     let mut wide = Vec::with_capacity(*list.allocator(), list.capacity())?;
     for entry in list {

@@ -7,8 +7,8 @@ ghost use Rattle.snapshots.specs.Stored.{blocks_stored, frame_stored, objects_st
 ghost use Rattle.snapshots.specs.Stored.{parts_of_blocks, parts_with, starts_in, starts_of};
 
 use crate::checking::{indexed, starts_of};
-use crate::header::Header;
 use crate::period_store::PeriodStore;
+use crate::shared_header::SharedHeader;
 use bit_rank::Bits;
 use k2_tree::K2Tree;
 use object_perm::Perm;
@@ -20,7 +20,7 @@ use track_types::{BitList, List32, Memory, PeriodParts};
 #[derive(Drop)]
 pub struct Blocks {
     /// The header of the index.
-    pub header: Rc<Header>,
+    pub header: Rc<SharedHeader>,
     /// The tree of the anchors' cells.
     pub tree: K2Tree,
     /// For each object whether it has a block.
@@ -43,7 +43,7 @@ impl Blocks {
     /// and all lengths add up to at most `MAX_SYMBOLS`.
     pub fn store(
         alloc: Global,
-        header: Rc<Header>,
+        header: Rc<SharedHeader>,
         tree: K2Tree,
         present: BitList,
         offsets: List32,

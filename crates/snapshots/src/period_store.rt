@@ -1,5 +1,5 @@
 use crate::blocks::Blocks;
-use crate::header::Header;
+use crate::shared_header::SharedHeader;
 use std::rc::Rc;
 
 /// What is stored of a period, in 16 bytes: an index may have 2^22 periods, most of them without a block.
@@ -10,7 +10,7 @@ pub enum PeriodStore {
         /// How many objects the index has.
         objects: u32,
         /// Its header, which has the tree of no cell.
-        header: Rc<Header>,
+        header: Rc<SharedHeader>,
     },
     /// Some object has one.
     Filled {

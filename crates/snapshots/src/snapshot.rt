@@ -18,11 +18,11 @@ use crate::anchored::Anchored;
 use crate::blocks::{Blocks, without_blocks};
 use crate::checking::{check_perm, check_tree, find_late, flaw, has_cells, instants_in, total};
 use crate::fault::SnapFault;
-use crate::header::Header;
 use crate::members::Members;
 use crate::objects_in::ObjectsIn;
 use crate::ones::places_of_ones;
 use crate::period_store::PeriodStore;
+use crate::shared_header::SharedHeader;
 use k2_tree::{K2Tree, Keep};
 use object_perm::Perm;
 use std::alloc::Global;
@@ -97,14 +97,14 @@ impl Snapshot {
         ensures flaw { IfErr result (λ fault.
             IsSnapFaultFor (flaw_of (view_with frame.now number objects start parts)) fault) }
     {
-        let header = Header::new(alloc, frame)?;
+        let header = SharedHeader::new(alloc, frame)?;
         Snapshot::check_under(alloc, &header, number, objects, start, parts)
     }
 
     /// The same for a header that is kept already, as that of an index is for all its periods.
     pub fn check_under(
         alloc: Global,
-        header: &Rc<Header>,
+        header: &Rc<SharedHeader>,
         number: u32,
         objects: u32,
         start: u32,
@@ -153,7 +153,7 @@ impl Snapshot {
     /// Memory is taken as by `check_under`, but for the marks of the permutation's values.
     pub fn of_flawless(
         alloc: Global,
-        header: &Rc<Header>,
+        header: &Rc<SharedHeader>,
         number: u32,
         objects: u32,
         start: u32,

@@ -1,5 +1,5 @@
 mod Examples
 mod RingLemmas
 pub mod CodeRingLemmas
-mod PlaceLemmas
+mod RingPlaceLemmas
 pub mod SpiralLemmas

@@ -8,8 +8,8 @@ use Rattle.std.proofs.lemmas.Int.{ints}
 use Rattle.std.proofs.lemmas.List.{get_or_append_left, get_or-append_right}
 use Rattle.std.proofs.lemmas.List.FromFn.{length-map-range_with_len, get_or-map-range_with_len}
 use Rattle.std.proofs.lemmas.List.Sums.{position_or_len_is}
-use Rattle.spiral_code.specs.declared.place.Side.{Side}
-use Rattle.spiral_code.specs.declared.place.Side.TheVariants.{East, North, West, South}
+use Rattle.spiral_code.specs.declared.ring_place.Side.{Side}
+use Rattle.spiral_code.specs.declared.ring_place.Side.TheVariants.{East, North, West, South}
 use Rattle.spiral_code.specs.Side.{sides_before}
 use Rattle.spiral_code.specs.Spiral.{ring_of, move_at, side_moves, ring_moves, is_move}
 

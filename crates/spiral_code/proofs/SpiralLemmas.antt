@@ -4,7 +4,7 @@ use Rattle.std.proofs.Common.{◌≡◌, ℕ, ◌+◌, ◌*◌, ◌<◌, ◌≤�
 use Rattle.spiral_code.specs.Spiral.{ring_of, square, code_of, ring_of_code, move_of}
 use Rattle.spiral_code.proofs.RingLemmas.{ring_of-move_at}
 use Rattle.spiral_code.proofs.CodeRingLemmas.{ring_of_code-zero, ring_of_code-le}
-use Rattle.spiral_code.proofs.PlaceLemmas.{code_of-move_at, ring_of_code-code_at, move_of-code_at, by_move, by_code}
+use Rattle.spiral_code.proofs.RingPlaceLemmas.{code_of-move_at, ring_of_code-code_at, move_of-code_at, by_move, by_code}
 
 -- code 0 is the zero movement
 pub code_of-zero : code_of (pos 0) (pos 0) ≡ 0

@@ -1,7 +1,7 @@
 -- The order of a ring's sides.
 use Rattle.std.specs.Prelude.{ℕ}
-use Rattle.spiral_code.specs.declared.place.Side.{Side}
-use Rattle.spiral_code.specs.declared.place.Side.TheVariants.{East, North, West, South}
+use Rattle.spiral_code.specs.declared.ring_place.Side.{Side}
+use Rattle.spiral_code.specs.declared.ring_place.Side.TheVariants.{East, North, West, South}
 
 -- how many sides of a ring come before this one
 abbrev pub sides_before : Side → ℕ

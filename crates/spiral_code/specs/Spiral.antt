@@ -4,8 +4,8 @@
 use Rattle.std.specs.Prelude.{ℕ, zero, suc, ◌+◌, ◌-◌, ◌*◌, max, ℤ, pos, neg_ℤ, ◌+ℤ◌, ◌-ℤ◌, unsigned_abs, Bool, ◌&&◌, nat_lt, List, [], ◌∷◌, ◌++◌, map, slice_index_or}
 use Rattle.std.specs.List.{range_with_len, position_or_len}
 use Rattle.std.specs.Ordering.{int_eq}
-use Rattle.spiral_code.specs.declared.place.Side.{Side}
-use Rattle.spiral_code.specs.declared.place.Side.TheVariants.{East, North, West, South}
+use Rattle.spiral_code.specs.declared.ring_place.Side.{Side}
+use Rattle.spiral_code.specs.declared.ring_place.Side.TheVariants.{East, North, West, South}
 
 -- the ring of a movement: its Chebyshev norm, the greater of its two distances
 abbrev pub ring_of : ℤ → ℤ → ℕ

@@ -6,7 +6,7 @@
 #![tactic(auto)]
 
 mod moves;
-mod place;
+mod ring_place;
 mod rings;
 
 pub use moves::{decode_move, encode_move};

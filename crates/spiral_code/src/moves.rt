@@ -1,7 +1,7 @@
 ghost use Rattle.std.specs.Prelude.{◌≡◌, ◌-◌, ◌^◌, ◌<◌};
 ghost use Rattle.spiral_code.specs.Spiral.{ring_of, code_of, move_of, square};
 
-use crate::place::Place;
+use crate::ring_place::RingPlace;
 
 /// The code of the movement that goes `dx` cells to the right and `dy` up.
 ///
@@ -16,7 +16,7 @@ pub fn encode_move(dx: i64, dy: i64) -> u64
     if dx == 0 && dy == 0 {
         return 0;
     }
-    Place::from_move(dx, dy).code()
+    RingPlace::from_move(dx, dy).code()
 }
 
 /// The movement of a code: how many cells it goes to the right, and how many up.
@@ -31,5 +31,5 @@ pub fn decode_move(code: u64) -> (i64, i64)
     if code == 0 {
         return (0, 0);
     }
-    Place::from_code(code).movement()
+    RingPlace::from_code(code).movement()
 }

@@ -22,7 +22,7 @@ use crate::index::Index;
 use chart_parts::parts_of;
 use index_file::{FileParts, Found, decode_found};
 use rule_store::{EntryTable, RuleStore};
-use snapshots::{Header, Snapshot, Stores};
+use snapshots::{SharedHeader, Snapshot, Stores};
 use std::alloc::Global;
 use std::rc::Rc;
 use step_count::{Reads, Steps};
@@ -243,7 +243,7 @@ fn judged_valid(alloc: Global, parts: Parts, table: EntryTable) -> Result<Judged
         symbols,
     } = parts;
     let count = objects.as_slice().len() as u32;
-    let header = Header::new(alloc, &frame)?;
+    let header = SharedHeader::new(alloc, &frame)?;
     let snaps = flawless_snaps(alloc, &header, count, periods)?;
     Ok(JudgedParts {
         frame,
@@ -311,14 +311,14 @@ fn check_periods(
     ensures flaw { IfErr result (λ fault.
         IsFormatFaultFor (snapshots_flaw (snapshots_with frame.now objects periods)) fault) }
 {
-    let header = Header::new(alloc, frame)?;
+    let header = SharedHeader::new(alloc, frame)?;
     check_each(alloc, &header, objects, periods)
 }
 
 // Takes the parts of all periods as their snapshots under a header.
 fn check_each(
     alloc: Global,
-    header: &Rc<Header>,
+    header: &Rc<SharedHeader>,
     objects: u32,
     periods: PeriodList,
 ) -> Result<Vec<Snapshot>, FormatFault>
@@ -344,7 +344,7 @@ fn check_each(
 // Takes the parts of all periods, which have no flaw, as their snapshots under a header.
 fn flawless_snaps(
     alloc: Global,
-    header: &Rc<Header>,
+    header: &Rc<SharedHeader>,
     objects: u32,
     periods: PeriodList,
 ) -> Result<Vec<Snapshot>, Memory>

@@ -2,7 +2,7 @@ use Rattle.std.proofs.Common.{◌≡◌, ℕ, ◌+◌, ◌<◌, List, [], ◌∷
 use Rattle.std.proofs.Common.{subst, get_or, length-append}
 use Rattle.k2_tree.specs.Areas.{IsBoxInside}
 use Rattle.box_tree.specs.Building.{IsMaking, IsTask, task_squares}
-use Rattle.box_tree.specs.Kinds.{link_kind}
+use Rattle.box_tree.specs.NodeKinds.{link_kind}
 use Rattle.box_tree.specs.Places.{box_at}
 use Rattle.box_tree.specs.declared.task.Task.{Task}
 use Rattle.box_tree.proofs.MakingLemmas.{is-task, making-next, read-task, task-run, turns-next}

@@ -8,7 +8,7 @@ use Rattle.rule_store.specs.Log.{log_of}
 use Rattle.rule_store.specs.Needs.{log_needs}
 use Rattle.snapshots.specs.Needs.{block_places}
 use Rattle.snapshots.specs.Parts.{stops_in}
-use Rattle.encounter.specs.Side.{remaining}
+use Rattle.encounter.specs.Party.{remaining}
 use Rattle.encounter.specs.Window.{meeting_among}
 use Rattle.encounter.proofs.SeekingLemmas.{meeting_among-left, meeting_among-right, stops-absent, stops-present}
 use Rattle.encounter.proofs.search.meet_in_period.Goals as goal

@@ -15,8 +15,8 @@ use Rattle.list_laws.proofs.SliceLemmas.{take-rest}
 use Rattle.track_types.specs.Row.{IsAscending, row_order}
 use Rattle.track_types.specs.declared.row.Row.{Row}
 use Rattle.track_types.proofs.RowLemmas.{object_le}
-use Rattle.gridding.specs.Block.{BeginsBlock, is_of_block}
-use Rattle.gridding.specs.declared.counts.Block.{Block}
+use Rattle.gridding.specs.BlockRange.{BeginsBlock, is_of_block}
+use Rattle.gridding.specs.declared.counts.BlockRange.{BlockRange}
 use Rattle.gridding.proofs.ObjectCountLemmas.{no_row}
 use Rattle.gridding.proofs.SymbolLemmas.{order_cases}
 use Rattle.gridding.proofs.counts.after_block.Goals as goal
@@ -45,25 +45,25 @@ module _ (rows : List Row) (d : Row) (up : IsAscending rows) where
       ]
 
 -- the first of rows that begin with a block
-first_row : (block : Block) (period : ℕ) (rows : List Row) (d : Row) → BeginsBlock block period rows →
+first_row : (block : BlockRange) (period : ℕ) (rows : List Row) (d : Row) → BeginsBlock block period rows →
     ((get_or rows 0 d).object ≡ block.object) × (block.end ≤ℤ ((get_or rows 0 d).instant +ℤ pos period))
 first_row block period [] d begins = absurd begins
 first_row block period (anchor ∷ later) d begins = begins
 
 -- a row that is of a block
-is_of_block-parts : (block : Block) (row : Row) → is_of_block block row ≡ true →
+is_of_block-parts : (block : BlockRange) (row : Row) → is_of_block block row ≡ true →
     (block.object ≡ row.object) × (row.instant <ℤ block.end)
 is_of_block-parts block row is =
     let parts = and_parts (block.object == row.object) (lt_z row.instant block.end) is in
     (grind (arith, nat_tests, parts.0), grind (arith, ints, parts.1))
 
-is_of_block-from_parts : (block : Block) (row : Row) → block.object ≡ row.object → row.instant <ℤ block.end →
+is_of_block-from_parts : (block : BlockRange) (row : Row) → block.object ≡ row.object → row.instant <ℤ block.end →
     is_of_block block row ≡ true
 is_of_block-from_parts block row object before_end =
     let early : lt_z row.instant block.end ≡ true = grind (arith, ints) in
     rw (eq-eqb block.object row.object object) early
 
-module _ (block : Block) (period : ℕ) (rows : List Row) (up : IsAscending rows)
+module _ (block : BlockRange) (period : ℕ) (rows : List Row) (up : IsAscending rows)
     (begins : BeginsBlock block period rows) where
   -- a row before one of the block is of the block
   before_in_block : (i j : ℕ) (d : Row) → i ≤ j → j < length rows → is_of_block block (get_or rows j d) ≡ true →

@@ -4,7 +4,7 @@ use Rattle.std.proofs.lemmas.Int.{ints, to_z-of_z}
 use Rattle.track_types.specs.Quantities.{elapsed}
 use Rattle.track_types.specs.declared.row.Row.{Row}
 use Rattle.track_types.proofs.TimelineLemmas.{quotient-low}
-use Rattle.gridding.specs.Block.{period_end}
+use Rattle.gridding.specs.BlockRange.{period_end}
 use Rattle.gridding.proofs.counts.block_of.Goals as goal
 use Rattle.gridding.proofs.counts.block_of.Goals.{After-from}
 

@@ -8,7 +8,7 @@ use Rattle.list_laws.proofs.PartLemmas.{IsStrictlySortedBy-drop}
 use Rattle.track_types.specs.Quantities.{log_length}
 use Rattle.track_types.specs.declared.row.Row.{Row}
 use Rattle.track_types.specs.Row.{row_order}
-use Rattle.gridding.specs.Block.{IsInSpan, block_of_row, is_of_block}
+use Rattle.gridding.specs.BlockRange.{IsInSpan, block_of_row, is_of_block}
 use Rattle.gridding.proofs.ObjectCountLemmas.{no_row}
 use Rattle.gridding.proofs.SymbolLemmas.{terminals-ascending, terminals-block, terminals-none}
 use Rattle.gridding.proofs.counts.symbol_count.Goals as goal

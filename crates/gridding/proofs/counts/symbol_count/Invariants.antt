@@ -1,7 +1,7 @@
 use Rattle.std.proofs.Common.{◌≡◌, ◌+◌, ◌*◌, ◌^◌, ◌≤◌, length, None}
 use Rattle.std.specs.Prelude.{All}
 use Rattle.track_types.specs.Row.{IsAscending}
-use Rattle.gridding.specs.Block.{IsInSpan}
+use Rattle.gridding.specs.BlockRange.{IsInSpan}
 use Rattle.gridding.proofs.SymbolLemmas.{terminals}
 use Rattle.gridding.proofs.counts.symbol_count.Given as goal
 

@@ -3,10 +3,10 @@ use Rattle.std.proofs.lemmas.Bool.{false≢true}
 use Rattle.k2_tree.specs.TreeSquares.{node_of}
 use Rattle.k2_tree.specs.SquareWalk.{AreOpen, IsTakenChild, open_nodes}
 use Rattle.k2_tree.proofs.WalkLemmas.{open_nodes-append, open_nodes-nil, AreOpen-parted, taken}
-use Rattle.k2_tree.specs.declared.pending.Pending.{Pending}
+use Rattle.k2_tree.specs.declared.pending_children.PendingChildren.{PendingChildren}
 use Rattle.k2_tree.proofs.square_walk.next_child.Goals as goal
 
-nothing : (stack : List Pending) → (0 < length stack → ⊥) → stack ≡ []
+nothing : (stack : List PendingChildren) → (0 < length stack → ⊥) → stack ≡ []
 nothing [] none = refl
 nothing (pending ∷ stack) none = absurd (none (omega arith))
 

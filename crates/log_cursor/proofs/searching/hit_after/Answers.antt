@@ -17,12 +17,12 @@ use Rattle.rule_store.specs.Expansion.{values_of}
 use Rattle.log_cursor.specs.Pending.{PendingView}
 use Rattle.log_cursor.specs.Start.{IsWayOf}
 use Rattle.log_cursor.specs.Touching.{IsHitOf, touches_at, touching_left, touching_rule}
-use Rattle.log_cursor.specs.Turn.{IsWalking, has_hull, is_hit, opening_count}
+use Rattle.log_cursor.specs.Turn.{IsWalking, has_hull, is_stop_in, opening_count}
 use Rattle.log_cursor.specs.Walk.{opened_left, stops_left}
 use Rattle.log_cursor.specs.declared.start.Start.{Start}
 use Rattle.log_cursor.proofs.StopLemmas.{word}
 use Rattle.log_cursor.proofs.HitLemmas.{outside-along, touches_at-some}
-use Rattle.log_cursor.proofs.OpenedLemmas.{is_hit-after, turn-past}
+use Rattle.log_cursor.proofs.OpenedLemmas.{IsHitOf-after, turn-past}
 use Rattle.log_cursor.proofs.NeedsLemmas.{search-same}
 use Rattle.log_cursor.proofs.TouchLemmas.{opened_left-count, touching_left-count, touching_rule-from, touching_rule-to}
 use Rattle.log_cursor.proofs.TurnLemmas.{IsTurn, find-passed, taken-near, taken-next, turn-fewer, turn-held, turn-hull, turn-opened, turn-opened-fewer, turn-opened-rules, turn-own, turn-reads, turn-rules, turn-rules-left, turn-stop, turn-way, walking-end, walking-over}
@@ -35,7 +35,7 @@ use Rattle.log_cursor.proofs.searching.hit_after.Goals.{then-next-from-via-then-
 begun : (region : Region) (may : Cell → Option CellBox → Bool) (first : PendingView) (budget : ℕ) (from to : ℤ) (start : Start)
     (steps : ℕ) → IsWayOf first.rules start first.symbols → from ≤ℤ to →
     steps + (first.unread + opening_count first.rules may from to start first.symbols) ≤ budget →
-    IsWalking (is_hit region) may first.rules (stops_left first.rules from to start first.symbols) budget from to first
+    IsWalking (is_stop_in region) may first.rules (stops_left first.rules from to start first.symbols) budget from to first
     start steps
 begun region may first budget from to start steps way window reads = record {
   passed = [];
@@ -80,8 +80,8 @@ touches-requires g c = taken-near c.loop-at.invariant.walking c.in_ok-entry.ensu
 -- the turn in which a symbol was taken off
 turn : (g : Over) (c : After-after-next g) {may : Cell → Option CellBox → Bool} {rules : RulesView} {stops : List Stop}
     {budget : ℕ} {from to : ℤ} →
-    IsWalking (is_hit c.args.test.now.region) may rules stops budget from to c.loop-at.pending c.loop-at.at c.loop-at.steps →
-    IsTurn (is_hit c.args.test.now.region) may rules stops budget from to c.loop-at.pending c.next.new.self c.loop-at.at
+    IsWalking (is_stop_in c.args.test.now.region) may rules stops budget from to c.loop-at.pending c.loop-at.at c.loop-at.steps →
+    IsTurn (is_stop_in c.args.test.now.region) may rules stops budget from to c.loop-at.pending c.next.new.self c.loop-at.at
     c.after-next.result c.loop-at.steps c.next.new.steps c.in_ok-entry.entry
 turn g c walking = record {
   walking = walking;
@@ -145,7 +145,7 @@ returns-then-not-is_rule-clause-value g c =
     let terminal : c.in_ok-entry.entry.symbol < length c.next.new.self.rules.alphabet =
     leb-false _ _ (sym c.is_rule.ensures ∙ c.if-not-is_rule.true) in
     let held = turn-held turn its.0 its.1 region terminal its.2 in
-    let found = find-passed (is_hit region) _ turn.walking.passed _ (turn-stop turn its.0 its.1 terminal its.3)
+    let found = find-passed (is_stop_in region) _ turn.walking.passed _ (turn-stop turn its.0 its.1 terminal its.3)
     turn.walking.unwanted in
     rw kept (sym (rw (from, to) at (rw held at found)))
 
@@ -287,7 +287,7 @@ returns-then-opened-ge-FORGOTTEN-clause-value g c =
     let to : word c.args.to ≡ c.args.to = to_z-of_z w64 _ (search rules) in
     let region = c.args.test.now.region in
     let later = rw walking.same at c.hit_beyond.ensures.value in
-    rw (from, to) at (later ∙ sym (find-passed (is_hit region) _ walking.passed _ walking.all walking.unwanted))
+    rw (from, to) at (later ∙ sym (find-passed (is_stop_in region) _ walking.passed _ walking.all walking.unwanted))
 
 pub returns-then-opened-ge-FORGOTTEN-clause-left : goal.returns-then-opened-ge-FORGOTTEN-clause-left
 returns-then-opened-ge-FORGOTTEN-clause-left g c =
@@ -300,7 +300,7 @@ returns-then-opened-ge-FORGOTTEN-clause-left g c =
     c.open.ensures.unread c.open.ensures.cost in
     let from : word c.args.from ≡ c.args.from = to_z-of_z w64 _ (search rules) in
     let to : word c.args.to ≡ c.args.to = to_z-of_z w64 _ (search rules) in
-    let found = is_hit-after c.args.test.now.region (word c.args.from) (word c.args.to) c.args.start c.loop-at.at
+    let found = IsHitOf-after c.args.test.now.region (word c.args.from) (word c.args.to) c.args.start c.loop-at.at
     c.args.pending.now c.open.new.self c.hit_beyond.new.pending c.args.steps.now c.open.new.steps c.hit_beyond.new.steps walking
     c.hit_beyond.result c.hit_beyond.ensures.left in
     rw (from, to) at found

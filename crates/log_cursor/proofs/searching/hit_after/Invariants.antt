@@ -1,7 +1,7 @@
 use Rattle.std.proofs.Common.{◌≡◌, ◌+◌, ◌<◌}
 use Rattle.log_cursor.specs.Needs.{RulesWithin}
 use Rattle.log_cursor.specs.Touching.{touches_at, touching_left}
-use Rattle.log_cursor.specs.Turn.{IsWalking, has_hull, is_hit, opening_rule, turns_left}
+use Rattle.log_cursor.specs.Turn.{IsWalking, has_hull, is_stop_in, opening_rule, turns_left}
 use Rattle.log_cursor.specs.Walk.{opened_left, stops_left}
 use Rattle.log_cursor.proofs.searching.hit_after.Given as goal
 
@@ -12,10 +12,10 @@ invariant-loop-at g l =
     let region = l.fn.test.region in
     let stops = stops_left first.rules l.fn.from l.fn.to l.fn.start first.symbols in
     record {
-      walking : IsWalking (is_hit region) (touches_at region) first.rules stops
+      walking : IsWalking (is_stop_in region) (touches_at region) first.rules stops
           (l.fn.steps + (first.unread + touching_left first.rules l.fn.from l.fn.to region l.fn.start first.symbols))
           l.fn.from l.fn.to l.pending l.at l.steps;
-      drawing : IsWalking (is_hit region) has_hull first.rules stops
+      drawing : IsWalking (is_stop_in region) has_hull first.rules stops
           (l.fn.steps + (first.unread + opened_left first.rules l.fn.from l.fn.to l.fn.start first.symbols))
           l.fn.from l.fn.to l.pending l.at l.steps;
       few : l.opened < 64;

@@ -15,7 +15,7 @@ use Rattle.log_cursor.specs.Opened.{Has}
 use Rattle.log_cursor.specs.Pending.{PendingView}
 use Rattle.log_cursor.specs.Start.{IsWayOf}
 use Rattle.log_cursor.specs.Touching.{IsHitOf, touches_at}
-use Rattle.log_cursor.specs.Turn.{IsWalking, has_hull, is_hit, opening_count}
+use Rattle.log_cursor.specs.Turn.{IsWalking, has_hull, is_stop_in, opening_count}
 use Rattle.log_cursor.specs.Walk.{stops_left}
 use Rattle.log_cursor.specs.declared.start.Start.{Start}
 use Rattle.log_cursor.proofs.StopLemmas.{word}
@@ -33,7 +33,7 @@ use Rattle.log_cursor.proofs.searching.hit_beyond.Goals.{then-from-at, else-from
 begun : (region : Region) (may : Cell → Option CellBox → Bool) (first : PendingView) (budget : ℕ) (from to : ℤ) (start : Start)
     (steps : ℕ) → IsWayOf first.rules start first.symbols → from ≤ℤ to →
     steps + (first.unread + opening_count first.rules may from to start first.symbols) ≤ budget →
-    IsWalking (is_hit region) may first.rules (stops_left first.rules from to start first.symbols) budget from to first
+    IsWalking (is_stop_in region) may first.rules (stops_left first.rules from to start first.symbols) budget from to first
     start steps
 begun region may first budget from to start steps way window reads = record {
   passed = [];
@@ -79,8 +79,8 @@ touches-requires g c = taken-near c.loop-at.invariant.0.walking c.in_ok-entry.en
 -- the turn in which a symbol was taken off
 turn : (g : Over) (c : After-after-next g) {may : Cell → Option CellBox → Bool} {rules : RulesView} {stops : List Stop}
     {budget : ℕ} {from to : ℤ} →
-    IsWalking (is_hit c.args.test.now.region) may rules stops budget from to c.loop-at.pending c.loop-at.at c.loop-at.steps →
-    IsTurn (is_hit c.args.test.now.region) may rules stops budget from to c.loop-at.pending c.next.new.self c.loop-at.at
+    IsWalking (is_stop_in c.args.test.now.region) may rules stops budget from to c.loop-at.pending c.loop-at.at c.loop-at.steps →
+    IsTurn (is_stop_in c.args.test.now.region) may rules stops budget from to c.loop-at.pending c.next.new.self c.loop-at.at
     c.after-next.result c.loop-at.steps c.next.new.steps c.in_ok-entry.entry
 turn g c walking = record {
   walking = walking;
@@ -142,7 +142,7 @@ returns-then-not-is_rule-clause-value g c =
     let terminal : c.in_ok-entry.entry.symbol < length c.next.new.self.rules.alphabet =
     leb-false _ _ (sym c.is_rule.ensures ∙ c.if-not-is_rule.true) in
     let held = turn-held turn its.0 its.1 region terminal its.2 in
-    let found = find-passed (is_hit region) _ turn.walking.passed _ (turn-stop turn its.0 its.1 terminal its.3)
+    let found = find-passed (is_stop_in region) _ turn.walking.passed _ (turn-stop turn its.0 its.1 terminal its.3)
     turn.walking.unwanted in
     rw kept (sym (rw (from, to) at (rw held at found)))
 

@@ -5,16 +5,16 @@ use Rattle.repair_grammar.specs.RePair.{AreBelow, rounds, re_pair}
 use Rattle.repair_grammar.specs.Kept.{Covers, keys_in}
 use Rattle.repair_grammar.specs.Pairs.{count_of, places_of}
 use Rattle.repair_grammar.specs.Threads.{live, marked_row, IsCounted}
-use Rattle.repair_grammar.specs.Joins.{IsText}
+use Rattle.repair_grammar.specs.Joins.{IsSymbolRow}
 use Rattle.repair_grammar.proofs.compressing.by_places.Given as goal
 
 -- the row is that of some blocks, and the rounds that are left of them lead to the end
 abbrev pub invariant-rounds : goal.invariant-rounds
 invariant-rounds l = record {
   now : List (List ℕ);
-  row : live l.text.symbols.items ≡ marked_row now;
-  text : IsText l.text;
-  counted : IsCounted l.text.symbols.items (count_of l.pairs) (places_of l.pairs);
+  of_blocks : live l.row.symbols.items ≡ marked_row now;
+  row : IsSymbolRow l.row;
+  counted : IsCounted l.row.symbols.items (count_of l.pairs) (places_of l.pairs);
   keys : Covers (count_of l.pairs) (keys_in l.keys);
   below : AreBelow (l.alphabet + length l.rules.items) now;
   few : 2 * length l.rules.items + sum_by length now ≤ sum_by length (blocks_in l.fn.blocks);
@@ -23,4 +23,4 @@ invariant-rounds l = record {
 }
 
 abbrev pub decreases-rounds : goal.decreases-rounds
-decreases-rounds l = length (live l.text.symbols.items)
+decreases-rounds l = length (live l.row.symbols.items)

@@ -13,16 +13,16 @@ use Rattle.repair_grammar.proofs.PairLemmas.{come_then, come_fewer}
 use Rattle.repair_grammar.proofs.JoinLemmas.{run_after, came, went, went_counts, noted_once, times_le, some_counts, gone_left-plain, gone_right-plain, counted_around, passing_around, some_weaker, plain_is, counted_room}
 use Rattle.repair_grammar.proofs.joining.join_at.Goals as goal
 use Rattle.repair_grammar.proofs.joining.join_at.Goals.{In_ok-note_some-2, After-join_around}
-use Rattle.repair_grammar.specs.declared.text.TheConstants.{GAP}
+use Rattle.repair_grammar.specs.declared.symbol_row.TheConstants.{GAP}
 
 pub note_some-requires : goal.note_some-requires
 note_some-requires c = record {
   room = rw c.plain_pair.ensures (some_weaker _ IsUnmarked (λ own. count_of c.args.pairs.now own + 1 < 4294967296)
       (λ own plain. omega (
         arith,
-        counted_room c.args.text.now.symbols.items (count_of c.args.pairs.now)
+        counted_room c.args.row.now.symbols.items (count_of c.args.pairs.now)
             (places_of c.args.pairs.now) own c.requires.counted plain,
-        c.requires.text.threads.few,
+        c.requires.row.threads.few,
       ))
       (plain_is c.around-around.result.before c.args.symbol));
 }
@@ -35,27 +35,27 @@ note_some-requires-2 c = record {
         arith,
         c.in_ok-note_some.ensures.counts own,
         times_le (only_if c.counts_next-counts.result c.plain_pair.result) own,
-        counted_room c.args.text.now.symbols.items (count_of c.args.pairs.now)
+        counted_room c.args.row.now.symbols.items (count_of c.args.pairs.now)
             (places_of c.args.pairs.now) own c.requires.counted plain,
-        c.requires.text.threads.few,
+        c.requires.row.threads.few,
       )) (plain_is c.args.symbol c.around-around.result.after));
 }
 
 fits : (c : In_ok-note_some-2) → c.args.symbol < GAP
 fits c = omega (arith, c.requires.fits)
 
-is_b : (c : In_ok-note_some-2) → at c.args.text.now.symbols.items c.around-around.result.gone ≡ c.args.pair.1
-is_b c = ap (at c.args.text.now.symbols.items) (sym (gone_is c.args.text.now.symbols.items c.args.text.now.next.items
-    c.args.text.now.previous.items c.args.place c.around-around.result.left c.around-around.result.gone
-    c.around-around.result.right c.around-around.result.before c.around-around.result.after c.requires.text.threads
+is_b : (c : In_ok-note_some-2) → at c.args.row.now.symbols.items c.around-around.result.gone ≡ c.args.pair.1
+is_b c = ap (at c.args.row.now.symbols.items) (sym (gone_is c.args.row.now.symbols.items c.args.row.now.next.items
+    c.args.row.now.previous.items c.args.place c.around-around.result.left c.around-around.result.gone
+    c.around-around.result.right c.around-around.result.before c.around-around.result.after c.requires.row.threads
     c.around-around.ensures)) ∙ c.requires.right
 
 before_at : (c : In_ok-note_some-2) → c.around-around.result.before
-    ≡ at c.args.text.now.symbols.items (get_or c.args.text.now.previous.items c.args.place 0)
+    ≡ at c.args.row.now.symbols.items (get_or c.args.row.now.previous.items c.args.place 0)
 before_at c = sym c.around-around.ensures.before_is
-    ∙ ap (at c.args.text.now.symbols.items) (sym (left_is c.args.text.now.symbols.items c.args.text.now.next.items
-    c.args.text.now.previous.items c.args.place c.around-around.result.left c.around-around.result.gone
-    c.around-around.result.right c.around-around.result.before c.around-around.result.after c.requires.text.threads
+    ∙ ap (at c.args.row.now.symbols.items) (sym (left_is c.args.row.now.symbols.items c.args.row.now.next.items
+    c.args.row.now.previous.items c.args.place c.around-around.result.left c.around-around.result.gone
+    c.around-around.result.right c.around-around.result.before c.around-around.result.after c.requires.row.threads
     c.around-around.ensures))
 
 begins : (c : In_ok-note_some-2) → (c.args.pair.0 == c.args.pair.1) ≡ true →
@@ -64,11 +64,11 @@ begins c same = ap (λ x. x == c.args.pair.0) (before_at c) ∙ c.requires.begin
 
 -- the run of the new symbol before the place
 run : (c : In_ok-note_some-2) → (c.around-around.result.before == c.args.symbol) ≡ true →
-    c.args.odd ≡ ends_odd c.args.symbol false (live (take c.args.place c.args.text.now.symbols.items))
+    c.args.odd ≡ ends_odd c.args.symbol false (live (take c.args.place c.args.row.now.symbols.items))
 run c is = c.requires.run (ap (λ x. x == c.args.symbol) (sym (before_at c)) ∙ is)
 
 counts_are : (c : In_ok-note_some-2) → c.counts_next-counts.result ≡ counts_left (ends_odd c.args.symbol false
-    (live (take c.args.place c.args.text.now.symbols.items))) c.around-around.result.before c.args.symbol
+    (live (take c.args.place c.args.row.now.symbols.items))) c.around-around.result.before c.args.symbol
 counts_are c = c.counts_next-counts.ensures ∙ elim (cases_Bool (c.around-around.result.before == c.args.symbol)) [
   | inl is ↦ rw is (run c is)
   | inr apart ↦ rw apart refl
@@ -84,7 +84,7 @@ new_r c = ap (λ x. c.args.symbol == x) (sym c.around-around.ensures.after_is)
 
 -- what comes is counted
 total : (c : In_ok-note_some-2) (other : ℕ × ℕ) → count_of c.note_some-2.new.pairs other
-    ≡ count_of c.args.pairs.now other + came c.args.text.now.symbols.items c.args.place c.around-around.result.left
+    ≡ count_of c.args.pairs.now other + came c.args.row.now.symbols.items c.args.place c.around-around.result.left
     c.around-around.result.gone c.around-around.result.right c.around-around.result.before
     c.around-around.result.after c.args.symbol c.around-around.ensures (fits c) c.args.pair.0 c.args.pair.1
     c.requires.left (is_b c) other
@@ -96,7 +96,7 @@ total c other = omega (
 
 -- so what goes is there
 enough : (c : In_ok-note_some-2) (other : ℕ × ℕ) → IsUnmarked other →
-    went c.args.text.now.symbols.items c.args.place c.around-around.result.left
+    went c.args.row.now.symbols.items c.args.place c.around-around.result.left
     c.around-around.result.gone c.around-around.result.right c.around-around.result.before
     c.around-around.result.after c.args.symbol c.around-around.ensures (fits c) c.args.pair.0 c.args.pair.1
     c.requires.left (is_b c) other
@@ -104,7 +104,7 @@ enough : (c : In_ok-note_some-2) (other : ℕ × ℕ) → IsUnmarked other →
 enough c other plain = omega (
   arith,
   total c other,
-  went_counts c.args.text.now.symbols.items c.args.place c.around-around.result.left
+  went_counts c.args.row.now.symbols.items c.args.place c.around-around.result.left
       c.around-around.result.gone c.around-around.result.right c.around-around.result.before
       c.around-around.result.after c.args.symbol c.around-around.ensures (fits c) c.args.pair.0 c.args.pair.1
       c.requires.left (is_b c) (count_of c.args.pairs.now) (places_of c.args.pairs.now)
@@ -160,13 +160,13 @@ later c own k some inside =
 pub returns-clause-counted : goal.returns-clause-counted
 returns-clause-counted c = let at_2 = (goal.at.returns-clause-counted c).In_ok-note_some-2 in
     let at_3 = (goal.at.returns-clause-counted c).After-join_around in
-    rw c.join_around.ensures.symbols (counted_around c.args.text.now.symbols.items c.args.place c.around-around.result.left
+    rw c.join_around.ensures.symbols (counted_around c.args.row.now.symbols.items c.args.place c.around-around.result.left
     c.around-around.result.gone c.around-around.result.right c.around-around.result.before
     c.around-around.result.after c.args.symbol c.around-around.ensures (fits at_2) c.args.pair.0 c.args.pair.1
-    c.requires.left (is_b at_2) c.args.text.now.next.items c.args.text.now.previous.items
+    c.requires.left (is_b at_2) c.args.row.now.next.items c.args.row.now.previous.items
     (count_of c.args.pairs.now) (count_of c.lower_some-2.new.pairs)
-    (places_of c.args.pairs.now) (places_of c.lower_some-2.new.pairs) c.requires.text.threads
-    c.requires.text.ends c.requires.fits c.requires.plain.0 c.requires.plain.1 c.requires.counted (begins at_2)
+    (places_of c.args.pairs.now) (places_of c.lower_some-2.new.pairs) c.requires.row.threads
+    c.requires.row.ends c.requires.fits c.requires.plain.0 c.requires.plain.1 c.requires.counted (begins at_2)
     (new_a at_2) c.requires.other (new_r at_2)
     (λ other. omega (
       arith,
@@ -191,11 +191,11 @@ returns-clause-counted c = let at_2 = (goal.at.returns-clause-counted c).In_ok-n
 pub returns-clause-passing : goal.returns-clause-passing
 returns-clause-passing c = let at_2 = (goal.at.returns-clause-passing c).In_ok-note_some-2 in
     λ first places q passing order. rw c.join_around.ensures.symbols
-    (passing_around c.args.text.now.symbols.items c.args.place c.around-around.result.left
+    (passing_around c.args.row.now.symbols.items c.args.place c.around-around.result.left
     c.around-around.result.gone c.around-around.result.right c.around-around.result.before
     c.around-around.result.after c.args.symbol c.around-around.ensures (fits at_2) c.args.pair.0 c.args.pair.1
-    c.requires.left (is_b at_2) c.args.text.now.next.items c.args.text.now.previous.items
-    c.requires.text.threads c.requires.text.ends c.requires.fits c.requires.plain.0 c.requires.plain.1 (begins at_2)
+    c.requires.left (is_b at_2) c.args.row.now.next.items c.args.row.now.previous.items
+    c.requires.row.threads c.requires.row.ends c.requires.fits c.requires.plain.0 c.requires.plain.1 (begins at_2)
     (new_a at_2) c.requires.other (new_r at_2) first places q passing order)
 
 pub returns-clause-come : goal.returns-clause-come
@@ -207,13 +207,13 @@ returns-clause-come c = let at_3 = (goal.at.returns-clause-come c).After-join_ar
 
 pub returns-clause-place : goal.returns-clause-place
 returns-clause-place c = let at_2 = (goal.at.returns-clause-place c).In_ok-note_some-2 in
-    rw c.join_around.ensures.symbols (after-place c.args.text.now.symbols.items c.args.place c.around-around.result.gone
+    rw c.join_around.ensures.symbols (after-place c.args.row.now.symbols.items c.args.place c.around-around.result.gone
     c.around-around.result.right c.args.symbol c.around-around.ensures.near c.around-around.ensures.next_near
     (fits at_2))
 
 pub returns-clause-run : goal.returns-clause-run
 returns-clause-run c = let at_2 = (goal.at.returns-clause-run c).In_ok-note_some-2 in
-    rw c.join_around.ensures.symbols (c.counts_next.ensures ∙ run_after c.args.text.now.symbols.items c.args.place
+    rw c.join_around.ensures.symbols (c.counts_next.ensures ∙ run_after c.args.row.now.symbols.items c.args.place
     c.around-around.result.left c.around-around.result.gone c.around-around.result.right c.around-around.result.before
     c.around-around.result.after c.args.symbol c.around-around.ensures (fits at_2) c.args.pair.0 c.args.pair.1
     c.requires.left (is_b at_2) c.args.odd (run at_2))

@@ -2,7 +2,7 @@ use Rattle.std.proofs.Common.{◌≡◌, ℕ, List, ltb, length, map, refl, ap, 
 use Rattle.std.specs.List.{flat_map}
 use Rattle.std.proofs.lemmas.Fn.{filter_same}
 use Rattle.repair_grammar.specs.Threads.{live}
-use Rattle.repair_grammar.specs.declared.text.TheConstants.{END}
+use Rattle.repair_grammar.specs.declared.symbol_row.TheConstants.{END}
 use Rattle.repair_grammar.proofs.RowLemmas.{unmarked-all}
 use Rattle.repair_grammar.proofs.rows.blocks_from.Goals as goal
 

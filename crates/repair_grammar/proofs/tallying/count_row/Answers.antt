@@ -9,7 +9,7 @@ use Rattle.repair_grammar.proofs.PassLemmas.{replacement_count-le, met_after-fre
 use Rattle.repair_grammar.proofs.CountedLemmas.{stands-inside}
 use Rattle.repair_grammar.proofs.JoinLemmas.{counted_plain, some_weaker, plain_is, first_step, first_noted, live-all}
 use Rattle.repair_grammar.proofs.tallying.count_row.Goals as goal
-use Rattle.repair_grammar.specs.declared.text.TheConstants.{GAP}
+use Rattle.repair_grammar.specs.declared.symbol_row.TheConstants.{GAP}
 
 pub returns-in_default : goal.returns-in_default
 returns-in_default c = absurd (let empty : c.args.row.now ≡ [] = nil_from_length _ c.in_default.ensures.cases in

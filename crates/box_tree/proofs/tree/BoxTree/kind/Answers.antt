@@ -1,7 +1,7 @@
 use Rattle.std.proofs.Common.{◌≡◌, slice_get, sym, ap, ◌∙◌, subst}
 use Rattle.std.proofs.lemmas.Option.{same_Some}
 use Rattle.box_tree.specs.Held.{IsKindFor}
-use Rattle.box_tree.specs.Kinds.{link_kind}
+use Rattle.box_tree.specs.NodeKinds.{link_kind}
 use Rattle.box_tree.specs.Tree.{levels_of, node_prefix, TreeView}
 use Rattle.box_tree.proofs.tree.BoxTree.kind.Goals as goal
 

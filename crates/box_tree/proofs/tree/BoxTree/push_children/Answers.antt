@@ -2,7 +2,7 @@ use Rattle.std.proofs.Common.{◌-◌, ◌≤◌, arith, subst, ap, reverse}
 use Rattle.box_tree.specs.Held.{Held, IsBranch, IsKindFor}
 use Rattle.box_tree.specs.Levels.{digits}
 use Rattle.box_tree.specs.Tree.{TreeView, child_limit, levels_below, node_prefix}
-use Rattle.box_tree.specs.declared.kind.Kind.TheVariants.{Branch}
+use Rattle.box_tree.specs.declared.node_kind.NodeKind.TheVariants.{Branch}
 use Rattle.k2_tree.proofs.PlaceLemmas.{child-fits}
 use Rattle.box_tree.proofs.WalkLemmas.{branch-parts, branch-some, given-way, length-mask_digits}
 use Rattle.box_tree.proofs.tree.BoxTree.push_children.Goals as goal

@@ -10,15 +10,15 @@ use Rattle.k2_tree.specs.Squares.{Node}
 use Rattle.k2_tree.specs.Tree.{Tree}
 use Rattle.k2_tree.specs.TreeSquares.{area_of, child_at, node_of, squares_of, IsSquareOf}
 use Rattle.k2_tree.specs.Digits.{digits_of}
-use Rattle.k2_tree.specs.Pending.{nodes_of, IsNextOf, StandsAt}
+use Rattle.k2_tree.specs.PendingChildren.{nodes_of, IsNextOf, StandsAt}
 use Rattle.k2_tree.specs.declared.square.Square.{Square}
-use Rattle.k2_tree.specs.declared.pending.Pending.{Pending}
+use Rattle.k2_tree.specs.declared.pending_children.PendingChildren.{PendingChildren}
 use Rattle.k2_tree.proofs.StoredLemmas.{length-digits_of}
 use Rattle.k2_tree.proofs.tree.K2Tree.children.Invariants.{AreTaken}
 use Rattle.k2_tree.proofs.tree.K2Tree.children.Goals as goal
 
 -- a square has at most sixteen children
-few_nodes : (pending : Pending) → length (nodes_of pending) ≤ 16
+few_nodes : (pending : PendingChildren) → length (nodes_of pending) ≤ 16
 few_nodes pending =
     let w : ℕ = pending.width in
     let most : 4 ^ w ≤ 4 ^ 2 = pow-le-pow_right {n = 4} (lit< tt) {i = w} {j = 2} pending.narrow in
@@ -31,7 +31,7 @@ few_nodes pending =
     )
 
 -- one more is taken
-module _ {tree : Tree} {square child : Square} {children : List Square} {old new : Pending}
+module _ {tree : Tree} {square child : Square} {children : List Square} {old new : PendingChildren}
     (before : AreTaken tree square children old) (next : IsNextOf old child new) where
   is_one : square.base ≡ tree.base → IsSquareOf tree child
   is_one base =
@@ -66,7 +66,7 @@ module _ {tree : Tree} {square child : Square} {children : List Square} {old new
 pub loop-child-init : goal.loop-child-init
 loop-child-init g c =
     let facts = c.pending_children-pending.ensures in
-    let pending : Pending = c.pending_children-pending.result in
+    let pending : PendingChildren = c.pending_children-pending.result in
     subst (λ children. AreTaken c.args.self.now c.args.square.now children pending) (sym c.new-children.ensures)
     (record {
       same = facts.square;

@@ -2,14 +2,14 @@ use Rattle.std.proofs.Common.{◌≡◌, ◌+◌, ◌≤◌, ◌++◌, List, len
 use Rattle.k2_tree.specs.Areas.{IsBoxInside}
 use Rattle.k2_tree.specs.Tree.{Tree}
 use Rattle.k2_tree.specs.TreeSquares.{area_of, node_of, squares_of, IsSquareOf}
-use Rattle.k2_tree.specs.Pending.{nodes_of, StandsAt}
+use Rattle.k2_tree.specs.PendingChildren.{nodes_of, StandsAt}
 use Rattle.k2_tree.specs.Pruning.{child_nodes}
 use Rattle.k2_tree.specs.declared.square.Square.{Square}
-use Rattle.k2_tree.specs.declared.pending.Pending.{Pending}
+use Rattle.k2_tree.specs.declared.pending_children.PendingChildren.{PendingChildren}
 use Rattle.k2_tree.proofs.tree.K2Tree.children.Given as goal
 
 -- some of a square's children were taken, and the others are pending
-pub record AreTaken (tree : Tree) (square : Square) (children : List Square) (pending : Pending) : Type 0 where
+pub record AreTaken (tree : Tree) (square : Square) (children : List Square) (pending : PendingChildren) : Type 0 where
   pub same : pending.square ≡ square
   pub nodes : map node_of children ++ nodes_of pending ≡ child_nodes tree (node_of square)
   pub found : All (IsSquareOf tree) children

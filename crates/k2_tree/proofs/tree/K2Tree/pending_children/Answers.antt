@@ -8,7 +8,7 @@ use Rattle.k2_tree.specs.Groups.{group_start}
 use Rattle.k2_tree.specs.Tree.{Tree, tree_of}
 use Rattle.k2_tree.specs.TreeSquares.{node_width, child_at, node_of, square_number, IsSquareOf}
 use Rattle.k2_tree.specs.Digits.{digits_of}
-use Rattle.k2_tree.specs.Pending.{nodes_of}
+use Rattle.k2_tree.specs.PendingChildren.{nodes_of}
 use Rattle.k2_tree.proofs.PrefixLemmas.{fan_pos}
 use Rattle.k2_tree.proofs.StoredLemmas.{child_inside, group_nodes, group_stands, length-digits_of}
 use Rattle.k2_tree.proofs.tree.K2Tree.pending_children.Goals as goal

@@ -1,6 +1,6 @@
 use Rattle.std.proofs.Common.{[], ◌∷◌, ◌++◌, ap, map, rules, ◌∙◌}
 use Rattle.std.proofs.lemmas.List.{map-append}
-use Rattle.rule_store.specs.Stored.{entries_of, widened}
+use Rattle.rule_store.specs.Stored.{entries_of, wide_entry}
 use Rattle.rule_store.proofs.packed_entries.PackedEntries.push.Goals as goal
 
 pub returns-in_err-push-in-Some : goal.returns-in_err-push-in-Some
@@ -18,9 +18,9 @@ unfolding entries_of
 returns-in_ok-push-in-Some c =
     let list = c.in-Narrow.list in
     let narrow = c.in-Some.narrow in
-    rw c.in-Narrow.is (ap (map widened) c.in_ok-push-in-Some.ensures.items
-    ∙ map-append widened list.items (narrow ∷ [])
-    ∙ ap (λ entry. map widened list.items ++ entry ∷ []) c.in-Some.ensures)
+    rw c.in-Narrow.is (ap (map wide_entry) c.in_ok-push-in-Some.ensures.items
+    ∙ map-append wide_entry list.items (narrow ∷ [])
+    ∙ ap (λ entry. map wide_entry list.items ++ entry ∷ []) c.in-Some.ensures)
 
 pub returns-in_ok-push-in-None : goal.returns-in_ok-push-in-None
 unfolding entries_of

@@ -1,8 +1,0 @@
--- What a node is, as it is kept in two numbers.
-use Rattle.std.specs.Prelude.{ℕ, ◌-◌, ◌^◌, nat_lt, if◌then◌else◌}
-use Rattle.box_tree.specs.declared.kind.Kind.{Kind}
-use Rattle.box_tree.specs.declared.kind.Kind.TheVariants.{Bucket, Branch}
-
--- the kind that a link stands for: a bucket's second number is 2^31 and the place after its last one
-abbrev pub link_kind : ℕ × ℕ → Kind
-link_kind link = if nat_lt link.1 (2 ^ 31) then Branch link.0 link.1 else Bucket link.0 (link.1 - 2 ^ 31)

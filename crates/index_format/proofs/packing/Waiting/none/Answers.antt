@@ -1,5 +1,0 @@
-use Rattle.index_format.proofs.PackingLemmas.{packing-starts}
-use Rattle.index_format.proofs.packing.Waiting.none.Goals as goal
-
-pub returns : goal.returns
-returns c = packing-starts
