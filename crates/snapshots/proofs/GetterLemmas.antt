@@ -1,9 +1,9 @@
 -- What the getters of an index's stores find: an object's place, and an instant's period.
-use Rattle.std.proofs.Common.{◌≡◌, ℕ, ◌<◌, false, eqb, List, length, get_or, map, None, Some, Result, Ok, Err, MatchResult, inl, inr, ap, sym, ◌∙◌, arith}
+use Rattle.std.proofs.Common.{◌≡◌, ℕ, ◌<◌, eqb, List, length, get_or, map, None, Some, Result, Ok, Err, MatchResult, inl, inr, ap, sym, ◌∙◌, arith}
 use Rattle.std.specs.Ordering.{nat_cmp}
 use Rattle.std.specs.List.Sorted.{IsBinarySearchResult}
 use Rattle.std.specs.List.Sorted.{IsStrictlyIncreasing}
-use Rattle.std.proofs.lemmas.Bool.{cases_lt}
+use Rattle.std.proofs.lemmas.Bool.{cases_lt, ne_eqb}
 use Rattle.std.proofs.lemmas.Bool.Decides.{nat_tests}
 use Rattle.std.proofs.lemmas.List.FromFn.{get_or-map-range_with_len}
 use Rattle.std.proofs.lemmas.List.Sorted.{searched}
@@ -16,13 +16,6 @@ use Rattle.snapshots.specs.Speed.{speed_of}
 use Rattle.snapshots.specs.Stores.{snapshots_in}
 use Rattle.snapshots.specs.View.{SnapshotView}
 
--- two numbers that differ
-apart : (a b : ℕ) → a < b → eqb a b ≡ false
-apart a b less = grind (arith, nat_tests)
-
-apart-greater : (a b : ℕ) → b < a → eqb a b ≡ false
-apart-greater a b less = grind (arith, nat_tests)
-
 -- a binary search finds the place of an object, or that there is none
 pub index_in-searched : (objects : List ℕ) (object : ℕ) (r : Result ℕ ℕ) → IsStrictlyIncreasing objects
     → IsBinarySearchResult (λ y. nat_cmp y object) objects r
@@ -33,14 +26,14 @@ index_in-searched objects object (Ok i) rising answer =
     (omega (arith, stands.0))
     (λ j low below.
     let less = increasing-below objects rising j i below stands.0 in
-    apart (get_or objects j 0) object (omega (arith, less, stands.1)))
+    ne_eqb (get_or objects j 0) object (λ e. omega (arith, less, stands.1, e)))
     (grind (arith, nat_tests, stands.1)))
 index_in-searched objects object (Err i) rising answer =
     let stands = searched objects object (Err i) answer (increasing-at_most objects rising) in
     sym (find_in_range-none (λ j. eqb (get_or objects j 0) object) 0 (length objects)
     (λ j low within. elim (cases_lt j i) [
-      | inl before ↦ apart (get_or objects j 0) object (stands.1 j before)
-      | inr after ↦ apart-greater (get_or objects j 0) object (stands.2 j after (omega arith))
+      | inl before ↦ ne_eqb (get_or objects j 0) object (λ e. omega (arith, stands.1 j before, e))
+      | inr after ↦ ne_eqb (get_or objects j 0) object (λ e. omega (arith, stands.2 j after (omega arith), e))
     ]))
 
 -- the snapshot at a place

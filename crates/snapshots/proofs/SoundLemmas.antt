@@ -37,23 +37,16 @@ next_greater : (lasts : List Bool) (perm : List ℕ) (place : ℕ) → order_fla
     → length perm ≡ length lasts → place + 1 < length perm → rank_of lasts place ≡ rank_of lasts (place + 1)
     → get_or perm place 0 < get_or perm (place + 1) 0
 next_greater lasts perm place none long within same =
-    let other : get_or lasts place false ≡ false = by_bit (get_or lasts place false) refl in
+    let other : get_or lasts place false ≡ false = elim (cases_Bool (get_or lasts place false)) [
+      | inl on ↦ absurd (omega (arith, rank_of-step lasts place (omega arith) ∙ ap (λ b. rank_of lasts place + cond b 1 0) on))
+      | inr off ↦ off
+    ] in
     let before : place + 1 - 1 ≡ place = omega arith in
     let fails =
     find_in_range-all (is_disordered lasts perm) 1 (length perm - 1) none (place + 1) (omega arith) (omega arith) in
     let fails' : (not (get_or lasts place false) && leb (get_or perm (place + 1) 0) (get_or perm place 0)) ≡ false =
     rw before at fails in
-    leb-false (get_or perm (place + 1) 0) (get_or perm place 0) (second (get_or lasts place false) _ other fails')
-  where
-    second : (b c : Bool) → b ≡ false → (not b && c) ≡ false → c ≡ false
-    second false c e fails = fails
-    second true c e fails = let clash : true ≡ false = e in absurd (cc)
-
-    by_bit : (b : Bool) → get_or lasts place false ≡ b → get_or lasts place false ≡ false
-    by_bit false e = e
-    by_bit true e =
-        let step = rank_of-step lasts place (omega arith) ∙ ap (λ b. rank_of lasts place + cond b 1 0) e in
-        absurd (omega arith)
+    leb-false (get_or perm (place + 1) 0) (get_or perm place 0) (rw other at fails')
 
 -- in a leaf the ranks ascend
 ascends : (lasts : List Bool) (perm : List ℕ) (p q : ℕ) → order_flaw lasts perm ≡ None

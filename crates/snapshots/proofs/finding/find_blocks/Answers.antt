@@ -25,12 +25,7 @@ use Rattle.snapshots.proofs.finding.find_blocks.Goals.{After-len-place-end, then
 count : (g : Over) (c : After-len-place-end g) → c.len-place-end.result ≡ length c.args.snapshot.now.parts.perm
 count g c =
     let parts = c.args.snapshot.now.parts in
-    omega (
-      arith,
-      c.len-place-end.ensures,
-      ap length c.in_ok-present.ensures.ok,
-      length-first_ones parts.present (length parts.perm),
-    )
+    omega (arith, c.len-place-end.ensures, ap length c.in_ok-present.ensures.ok, length-first_ones parts.present (length parts.perm))
 
 -- the tree's cells
 cells : (g : Over) (c : After-len-place-end g) → c.in_ok-listing.listing.cells.items ≡ (tree_in c.args.snapshot.now).cells

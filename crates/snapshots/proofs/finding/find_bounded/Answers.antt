@@ -20,12 +20,7 @@ use Rattle.snapshots.proofs.finding.find_bounded.Goals.{After-len-place-end}
 count : (g : Over) (c : After-len-place-end g) → c.len-place-end.result ≡ length c.args.snapshot.now.parts.perm
 count g c =
     let parts = c.args.snapshot.now.parts in
-    omega (
-      arith,
-      c.len-place-end.ensures,
-      ap length c.in_ok-present.ensures.ok,
-      length-first_ones parts.present (length parts.perm),
-    )
+    omega (arith, c.len-place-end.ensures, ap length c.in_ok-present.ensures.ok, length-first_ones parts.present (length parts.perm))
 
 -- the reads are within those of all blocks
 reads : (g : Over) (c : After-len-place-end g) (place steps more : ℕ) → place < c.len-place-end.result
