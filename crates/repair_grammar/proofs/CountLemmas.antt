@@ -1,4 +1,4 @@
--- Counts of pairs: one more, one block more, and all that there is room for.
+-- Counts of pairs: one more, and the pair that a step counts.
 use Rattle.std.proofs.Common.{◌≡◌, ℕ, ◌+◌, true, cond, Option, None, Some, unwrap_or, refl, arith}
 use Rattle.std.proofs.lemmas.Bool.{and_from, eq-eqb}
 use Rattle.std.proofs.lemmas.Bool.Decides.{nat_tests}

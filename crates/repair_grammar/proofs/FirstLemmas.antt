@@ -1,17 +1,14 @@
--- The first of the keys that a map has.
-use Rattle.std.proofs.Common.{◌≡◌, ◌⊎◌, ℕ, ◌<◌, ◌≤◌, ◌&&◌, nat_eq, true, false, List, [], ◌∷◌, Option, Some, None, Ordering, IfSome, refl, sym, ◌∙◌, ap, arith, inl, inr}
-use Rattle.std.specs.HashMap.{HashMap, get}
-use Rattle.std.specs.List.{Contains, All}
+-- The first of keys, and that no pair counts two where none is taken.
+use Rattle.std.proofs.Common.{◌≡◌, ℕ, ◌<◌, true, false, List, [], ◌∷◌, Some, None, Ordering, refl, sym, ◌∙◌, ap, arith, inl, inr}
+use Rattle.std.specs.List.{Contains}
 use Rattle.std.specs.Ordering.{is_lt, is_gt, ordering_reverse}
 use Rattle.std.specs.declared.cmp.Ordering.TheVariants.{Less, Equal, Greater}
-use Rattle.std.proofs.lemmas.Bool.{cases_Bool, cases_lt, le-ltb, and_parts, eqb-true, ne_eqb}
+use Rattle.std.proofs.lemmas.Bool.{cases_Bool, cases_lt, le-ltb, ne_eqb}
 use Rattle.std.proofs.lemmas.Cmp.{upto, tied_itself}
-use Rattle.std.proofs.lemmas.Map.Views.{Contains-from_lookup}
-use Rattle.std.proofs.lemmas.Bool.Decides.{nat_tests}
 use Rattle.list_laws.proofs.MemberLemmas.{first_member, later_member, member_cases, no_member}
 use Rattle.repair_grammar.specs.declared.key.Key.{Key}
 use Rattle.repair_grammar.specs.RePair.{key_order, key_of, keys_of, first_key, pair_count}
-use Rattle.repair_grammar.specs.Counts.{AllBelowTwo, key_at}
+use Rattle.repair_grammar.specs.Counts.{AllBelowTwo}
 use Rattle.repair_grammar.proofs.KeyLemmas.{key_order_total, first_key-only, key_stands}
 
 -- one key is not after another
@@ -42,45 +39,10 @@ upto_from a b not_less = ap is_gt (key_order_total.antisymm a b) ∙ turned (key
 pub not_before : (a b : Key) → IsUpTo a b → is_lt (key_order b a) ≡ false
 not_before a b up = ap is_lt (key_order_total.antisymm b a) ∙ turned_back (key_order a b) ∙ up
 
--- the key is the first of the entries that count two, and of one that stood before them
-pub record IsFirstIn (first : Option Key) (entries : List ((ℕ × ℕ) × ℕ)) (key : Key) : Type 0 where
-  pub two : 1 < key.count
-  pub from : (first ≡ Some key) ⊎ Contains entries (key.pair, key.count)
-  pub that : IfSome first (λ other. IsUpTo key other)
-  pub each : (entry : (ℕ × ℕ) × ℕ) → Contains entries entry → 1 < entry.1 → IsUpTo key (key_at entry)
-
--- what is found
-abbrev pub IsFound : Option Key → List ((ℕ × ℕ) × ℕ) → Option Key → Type 0
-IsFound first entries None = (first ≡ None) × ((entry : (ℕ × ℕ) × ℕ) → Contains entries entry → entry.1 ≤ 1)
-IsFound first entries (Some key) = IsFirstIn first entries key
-
--- an entry that does not count two
-pass : (first : Option Key) (entry : (ℕ × ℕ) × ℕ) (entries : List ((ℕ × ℕ) × ℕ)) (result : Option Key) → entry.1 ≤ 1 →
-    IsFound first entries result → IsFound first (entry ∷ entries) result
-pass first entry entries None one found = (
-  found.0,
-  λ other inside. elim (member_cases other entry entries inside) [
-    | inl same ↦ rw (sym same) one
-    | inr later ↦ found.1 other later
-  ],
-)
-pass first entry entries (Some key) one found = grind (arith, nat_tests, later_member, member_cases)
-
 -- a key that counts less is not taken before
 pub fewer_after : (a b : Key) → a.count < b.count → is_lt (key_order a b) ≡ false
 unfolding key_order
 fewer_after a b fewer = rw (le-ltb b.count a.count (omega arith), ne_eqb b.count a.count (λ same. omega arith)) refl
-
-same_pair : (x y : ℕ × ℕ) → (nat_eq x.0 y.0 && nat_eq x.1 y.1) ≡ true → x ≡ y
-same_pair x y alike = let parts = and_parts (nat_eq x.0 y.0) (nat_eq x.1 y.1) alike in
-    λ i. (eqb-true x.0 y.0 parts.0 i, eqb-true x.1 y.1 parts.1 i)
-
-module _ {S : Type 0} (counts : HashMap (ℕ × ℕ) ℕ S)
-    (known : All (λ entry. get (λ x y. nat_eq x.0 y.0 && nat_eq x.1 y.1) counts entry.0
-    ≡ Some entry.1) counts.entries) where
-  entry_of : (pair : ℕ × ℕ) (count : ℕ) → get (λ x y. nat_eq x.0 y.0 && nat_eq x.1 y.1) counts pair ≡ Some count →
-      Contains counts.entries (pair, count)
-  entry_of pair count is = Contains-from_lookup same_pair pair count counts.entries is
 
 -- of keys, one is after none
 least : (first : Key) (keys : List Key) →

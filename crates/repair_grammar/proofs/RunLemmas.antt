@@ -158,10 +158,6 @@ module _ (front : List ℕ) (l a b c r : ℕ) (rest : List ℕ) (begins : (a == 
     unfolding times_of
     single x = rw (free x) refl
 
-    nothing : times_of None other ≡ 0
-    unfolding times_of
-    nothing = refl
-
     left_gone-is : times_of (left_gone front l a b) other ≡ cond (is_pair other l a) 1 0
     unfolding left_gone times_of
     left_gone-is = grind (arith, nat_tests, free, single)
@@ -196,10 +192,6 @@ module _ (front : List ℕ) (l a b c r : ℕ) (rest : List ℕ) (begins : (a == 
         ((y == u) && test) 1 0
     one_twin y true = alike y y ∙ elim (cases_Bool (y == u)) [ inl is ↦ rw is refl | inr differ ↦ rw differ refl ]
     one_twin y false = unfold times_of in rw (and_right (y == u) false refl) refl
-
-    -- where x is u, y is x if it is u
-    tests : (x y : ℕ) → (x == u) ≡ true → (x == y) ≡ (y == u)
-    tests x y is = grind (arith, nat_tests)
 
     -- two that differ are not both u
     not_both : (x y : ℕ) → (x == y) ≡ false → ((x == u) && (y == u)) ≡ false

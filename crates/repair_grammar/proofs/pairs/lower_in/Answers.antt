@@ -1,10 +1,9 @@
 use Rattle.std.proofs.Common.{rules, ◌-◌, refl, sym, ◌∙◌, ap, arith}
 use Rattle.std.specs.Option.{option_copied_mut}
-use Rattle.repair_grammar.specs.Pairs.{seen_entry}
+use Rattle.repair_grammar.specs.Pairs.{seen_entry, count_in_entry}
 use Rattle.repair_grammar.proofs.PairLemmas.{places_same}
 use Rattle.std.proofs.lemmas.Grind.{common_steps}
 use Rattle.std.proofs.lemmas.Bool.Decides.{nat_tests}
-use Rattle.repair_grammar.specs.Pairs.{count_in_entry}
 use Rattle.repair_grammar.proofs.pairs.lower_in.Goals as goal
 
 pub overflow_sub-seen : goal.overflow_sub-seen

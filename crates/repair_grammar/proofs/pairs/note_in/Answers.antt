@@ -2,10 +2,9 @@ use Rattle.std.proofs.Common.{◌≡◌, ℕ, cond, Some, None, [], ◌∷◌, �
 use Rattle.std.specs.Option.{option_copied_mut}
 use Rattle.repair_grammar.proofs.PairLemmas.{count-none, count-some, count_new, places_new}
 use Rattle.repair_grammar.specs.RePair.{is_pair}
-use Rattle.repair_grammar.specs.Pairs.{seen_entry}
+use Rattle.repair_grammar.specs.Pairs.{seen_entry, count_in_entry, places_in_entry}
 use Rattle.std.proofs.lemmas.Grind.{common_steps}
 use Rattle.std.proofs.lemmas.Bool.Decides.{nat_tests}
-use Rattle.repair_grammar.specs.Pairs.{count_in_entry, places_in_entry}
 use Rattle.repair_grammar.proofs.pairs.note_in.Goals as goal
 use Rattle.repair_grammar.proofs.pairs.note_in.Goals.{In_ok-insert-in-None}
 
