@@ -16,9 +16,7 @@ use Rattle.snapshots.proofs.stores.Stores.tracks.Goals.{After-kept}
 
 -- the period's snapshot
 snap : (g : Over) (c : After-kept g) → IsSnapshot (snapshot_in c.args.self.now c.args.period)
-snap g c =
-    IsSnapshot-valid c.args.self.now (record { shaped = c.frame.ensures.shaped; sound = c.frame.ensures.sound })
-    c.args.period c.requires
+snap g c = IsSnapshot-valid c.args.self.now c.frame.ensures.valid c.args.period c.requires
 
 -- blocks that may hold what is sought are the period's
 sought : (g : Over) (c : After-kept g) (left : List Anchored)
