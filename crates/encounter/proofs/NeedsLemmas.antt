@@ -5,7 +5,8 @@ use Rattle.track_types.specs.Frame.{periods_of}
 use Rattle.track_types.specs.declared.parts.Parts.{Parts}
 use Rattle.rule_store.specs.Needs.{log_needs}
 use Rattle.snapshots.specs.IndexCost.{is_met}
-use Rattle.snapshots.specs.Needs.{block_places, is_of_block, is_of_pair, needs_in, pair_needs_between}
+use Rattle.snapshots.specs.Needs.{block_places, is_of_block, needs_in}
+use Rattle.object_track.specs.Needs.{is_of_pair, pair_needs_between}
 use Rattle.snapshots.specs.Parts.{index_in, snapshot_in}
 use Rattle.snapshots.specs.View.{block_of}
 use Rattle.snapshots.proofs.NeedsLemmas.{may-log, needs_in-within}

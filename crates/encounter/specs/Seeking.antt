@@ -5,7 +5,8 @@ use Rattle.step_count.specs.Reads.{Read}
 use Rattle.track_types.specs.Meeting.{first_together}
 use Rattle.track_types.specs.declared.parts.Parts.{Parts}
 use Rattle.track_types.specs.declared.stop.Stop.{Stop}
-use Rattle.snapshots.specs.Needs.{is_of_pair, needs_in}
+use Rattle.snapshots.specs.Needs.{needs_in}
+use Rattle.object_track.specs.Needs.{is_of_pair}
 use Rattle.snapshots.specs.Parts.{first_in}
 use Rattle.object_track.specs.Between.{stops_between}
 use Rattle.track_index.specs.Path.{is_left}

@@ -4,7 +4,7 @@ ghost use Rattle.track_types.specs.Meeting.{meeting_of};
 ghost use Rattle.track_types.specs.Near.{IsAsked};
 ghost use Rattle.track_types.specs.declared.limit.TheConstants.{MAX_REACH};
 ghost use Rattle.track_types.specs.declared.meeting.Meeting.{Meeting as MeetingView};
-ghost use Rattle.snapshots.specs.Needs.{pair_needs_between};
+ghost use Rattle.object_track.specs.Needs.{pair_needs_between};
 ghost use Rattle.snapshots.specs.Parts.{chart_in};
 ghost use Rattle.encounter.specs.MeetCost.{meet_cost, meet_cost_until};
 

@@ -4,7 +4,7 @@ use Rattle.step_count.specs.Reads.{Read}
 use Rattle.track_types.specs.declared.parts.Parts.{Parts}
 use Rattle.track_types.specs.declared.question.Question.{Question}
 use Rattle.track_types.specs.declared.question.Question.TheVariants as question
-use Rattle.snapshots.specs.Needs.{needs_between}
+use Rattle.object_track.specs.Needs.{needs_between}
 use Rattle.track_index.specs.Cost.{needs_of}
 
 -- What a question needs to be read of an index beside a tail. It is what it needs of the index alone. But an interval may read

@@ -10,7 +10,7 @@ ghost use Rattle.track_types.specs.Table.{IsTable};
 ghost use Rattle.track_types.specs.declared.question.Question.TheVariants as asked;
 ghost use Rattle.track_types.specs.declared.row.Row.{Row as RowView};
 ghost use Rattle.log_cursor.specs.Touching.{first_among};
-ghost use Rattle.snapshots.specs.Needs.{needs_between};
+ghost use Rattle.object_track.specs.Needs.{needs_between};
 ghost use Rattle.snapshots.specs.Parts.{chart_in};
 ghost use Rattle.interval_search.specs.FirstHits.{hit_in};
 ghost use Rattle.track_index.specs.Cost.{cost_of};

@@ -1,12 +1,13 @@
--- Which reads of an index find a cell at an instant: of rules only those that hold the instant.
-use Rattle.std.specs.Prelude.{ℕ, ℤ, Bool, false, Option, None, Some}
+-- Which reads of an index a position needs, of rules only those that hold its instant, and a window.
+use Rattle.std.specs.Prelude.{ℕ, ℤ, Bool, false, ◌||◌, Option, None, Some}
 use Rattle.step_count.specs.Reads.{Read, ofRule}
 use Rattle.track_types.specs.Frame.{period_in}
 use Rattle.track_types.specs.declared.parts.Parts.{Parts}
 use Rattle.log_cursor.specs.Needs.{search_needs}
 use Rattle.log_cursor.specs.Start.{start_at}
 use Rattle.log_cursor.specs.Touching.{holding_rule}
-use Rattle.snapshots.specs.Needs.{block_places, object_needs_at}
+use Rattle.snapshots.specs.IndexCost.{is_met}
+use Rattle.snapshots.specs.Needs.{block_places, is_of_block, is_of_logs, needs_in, object_needs_at}
 use Rattle.snapshots.specs.Parts.{anchored_at, index_in, log_in, rules_in, snapshot_in}
 use Rattle.snapshots.specs.View.{block_of}
 use Rattle.snapshots.specs.declared.anchored.Anchored.{Anchored}
@@ -34,3 +35,22 @@ abbrev pub position_needs : Parts → ℕ → ℤ → Read → Bool
 position_needs parts object instant (ofRule rule) =
     position_rule parts (index_in parts.objects object) (period_in parts.frame instant) instant rule
 position_needs parts object instant other = object_needs_at parts object instant other
+
+-- a place is among those of the logs of two objects' blocks of a period
+abbrev pub is_of_pair : Parts → Option ℕ → Option ℕ → ℕ → ℕ → Bool
+is_of_pair parts left right number place = is_of_block parts left number place || is_of_block parts right number place
+
+-- the reads of the periods that a window meets, and of their logs
+abbrev pub needs_between : Parts → ℤ → ℤ → Read → Bool
+needs_between parts from to = needs_in parts.frame (is_met parts.frame from to) (is_of_logs parts)
+
+-- the reads of the periods that a window meets, and of the logs of an object there
+abbrev pub object_needs_between : Parts → ℕ → ℤ → ℤ → Read → Bool
+object_needs_between parts object from to =
+    needs_in parts.frame (is_met parts.frame from to) (is_of_block parts (index_in parts.objects object))
+
+-- the reads of the periods that a window meets, and of the logs of two objects there
+abbrev pub pair_needs_between : Parts → ℕ → ℕ → ℤ → ℤ → Read → Bool
+pair_needs_between parts left right from to =
+    needs_in parts.frame (is_met parts.frame from to)
+    (is_of_pair parts (index_in parts.objects left) (index_in parts.objects right))

@@ -1,12 +1,11 @@
 -- Which reads a question about an index needs.
-use Rattle.std.specs.Prelude.{ℕ, ◌+◌, ◌==◌, ℤ, Bool, true, false, ◌&&◌, ◌||◌, sum, Option, None, Some}
+use Rattle.std.specs.Prelude.{ℕ, ◌+◌, ◌==◌, ℤ, Bool, true, false, ◌&&◌, sum, Option, None, Some}
 use Rattle.std.specs.List.{list_any}
 use Rattle.step_count.specs.Reads.{Read, ofPeriod, ofRule, ofSymbol}
 use Rattle.track_types.specs.Frame.{period_in}
 use Rattle.track_types.specs.declared.frame.Frame.{Frame}
 use Rattle.track_types.specs.declared.parts.Parts.{Parts}
 use Rattle.rule_store.specs.Needs.{is_among}
-use Rattle.snapshots.specs.IndexCost.{is_met}
 use Rattle.snapshots.specs.Parts.{index_in, numbers_in, snapshot_in}
 use Rattle.snapshots.specs.View.{SnapshotView, block_of}
 use Rattle.snapshots.specs.declared.anchored.Anchored.{Anchored}
@@ -37,10 +36,6 @@ abbrev pub is_of_block : Parts → Option ℕ → ℕ → ℕ → Bool
 is_of_block parts None number place = false
 is_of_block parts (Some index) number place = is_among (block_places (block_of (snapshot_in parts number) index)) place
 
--- the same of two objects
-abbrev pub is_of_pair : Parts → Option ℕ → Option ℕ → ℕ → ℕ → Bool
-is_of_pair parts left right number place = is_of_block parts left number place || is_of_block parts right number place
-
 -- a period is the one that was found
 abbrev pub is_found : Option ℕ → ℕ → Bool
 is_found None period = false
@@ -50,22 +45,7 @@ is_found (Some found) period = period == found
 abbrev pub needs_at : Parts → ℤ → Read → Bool
 needs_at parts instant = needs_in parts.frame (is_found (period_in parts.frame instant)) (is_of_logs parts)
 
--- the reads of the periods that a window meets, and of their logs
-abbrev pub needs_between : Parts → ℤ → ℤ → Read → Bool
-needs_between parts from to = needs_in parts.frame (is_met parts.frame from to) (is_of_logs parts)
-
 -- the reads of the period of an instant, and of the log of an object there
 abbrev pub object_needs_at : Parts → ℕ → ℤ → Read → Bool
 object_needs_at parts object instant =
     needs_in parts.frame (is_found (period_in parts.frame instant)) (is_of_block parts (index_in parts.objects object))
-
--- the reads of the periods that a window meets, and of the logs of an object there
-abbrev pub object_needs_between : Parts → ℕ → ℤ → ℤ → Read → Bool
-object_needs_between parts object from to =
-    needs_in parts.frame (is_met parts.frame from to) (is_of_block parts (index_in parts.objects object))
-
--- the reads of the periods that a window meets, and of the logs of two objects there
-abbrev pub pair_needs_between : Parts → ℕ → ℕ → ℤ → ℤ → Read → Bool
-pair_needs_between parts left right from to =
-    needs_in parts.frame (is_met parts.frame from to)
-    (is_of_pair parts (index_in parts.objects left) (index_in parts.objects right))

@@ -10,7 +10,8 @@ use Rattle.track_types.specs.declared.region.Region.{Region}
 use Rattle.rule_store.specs.Needs.{is_among, log_needs}
 use Rattle.rule_store.proofs.NeedsLemmas.{is_among-none}
 use Rattle.snapshots.specs.IndexCost.{is_met}
-use Rattle.snapshots.specs.Needs.{block_places, is_of_block, needs_between, needs_in, object_needs_between}
+use Rattle.snapshots.specs.Needs.{block_places, is_of_block, needs_in}
+use Rattle.object_track.specs.Needs.{needs_between, object_needs_between}
 use Rattle.snapshots.specs.Parts.{index_in, snapshot_in}
 use Rattle.snapshots.specs.View.{block_of}
 use Rattle.snapshots.specs.declared.anchored.Anchored.{Anchored}

@@ -8,9 +8,8 @@ use Rattle.track_types.specs.declared.question.Question.{Question}
 use Rattle.track_types.specs.declared.question.Question.TheVariants as question
 use Rattle.track_types.specs.declared.stop.Stop.{Stop}
 use Rattle.snapshots.specs.IndexCost.{path_cost, position_cost}
-use Rattle.snapshots.specs.Needs.{object_needs_between, pair_needs_between}
 use Rattle.snapshots.specs.Parts.{chart_in}
-use Rattle.object_track.specs.Needs.{position_needs}
+use Rattle.object_track.specs.Needs.{object_needs_between, pair_needs_between, position_needs}
 use Rattle.slice_search.specs.Cost.{slice_cost}
 use Rattle.slice_search.specs.Needs.{interval_needs, slice_needs}
 use Rattle.interval_search.specs.Cost.{interval_cost}

@@ -3,7 +3,7 @@ ghost use Rattle.step_count.specs.Reads.{ReadsWithin};
 ghost use Rattle.track_types.specs.ByFilter.{path_of};
 ghost use Rattle.track_types.specs.declared.question.Question.TheVariants as asked;
 ghost use Rattle.snapshots.specs.IndexCost.{path_cost};
-ghost use Rattle.snapshots.specs.Needs.{needs_between};
+ghost use Rattle.object_track.specs.Needs.{needs_between};
 
 use crate::index::IndexRef;
 use crate::path_walk::PathWalk;

@@ -14,7 +14,7 @@ use Rattle.std.specs.List.Sorted.{IsStrictlySortedBy}
 use Rattle.std.proofs.lemmas.List.Elements.{All-filter, All-same}
 use Rattle.track_types.specs.declared.question.Question.TheVariants.{Path}
 use Rattle.track_types.specs.declared.parts.Parts.{Parts}
-use Rattle.snapshots.specs.Needs.{needs_between}
+use Rattle.object_track.specs.Needs.{needs_between}
 use Rattle.snapshots.specs.Parts.{chart_in}
 use Rattle.track_index.specs.Cost.{cost_of}
 use Rattle.live_tail.specs.Walk.{stop_order, stops_with}

@@ -5,7 +5,8 @@ use Rattle.std.proofs.lemmas.Result.{IfOk-weaker}
 use Rattle.track_types.specs.ByFilter.{path_of}
 use Rattle.track_types.specs.declared.parts.Parts.{Parts}
 use Rattle.step_count.specs.Reads.{ReadsWithin}
-use Rattle.snapshots.specs.Needs.{is_of_block, is_of_logs, needs_between, needs_in, object_needs_between}
+use Rattle.snapshots.specs.Needs.{is_of_block, is_of_logs, needs_in}
+use Rattle.object_track.specs.Needs.{needs_between, object_needs_between}
 use Rattle.snapshots.proofs.NeedsLemmas.{object-within}
 use Rattle.track_index.proofs.NeedsLemmas.{left-met, left-none}
 use Rattle.snapshots.specs.IndexCost.{is_met, path_cost}
