@@ -14,7 +14,7 @@ use Rattle.spiral_code.specs.Spiral.{move_of}
 use Rattle.log_cursor.specs.Seek.{cell_among}
 use Rattle.log_cursor.specs.Start.{start_at}
 use Rattle.log_cursor.specs.Touching.{first_hit_of, holding_rule, touching_count}
-use Rattle.log_cursor.specs.Walk.{at_rest, begins_left, reads_to, walk_from}
+use Rattle.log_cursor.specs.Walk.{at_rest, nodes_left, reads_to, walk_from}
 use Rattle.log_cursor.specs.declared.start.Start.{Start}
 use Rattle.log_cursor.proofs.WalkLemmas.{walk_from-empty}
 
@@ -34,7 +34,7 @@ is_absent : cell_among (block_stops four (pos 10) (cell_with (pos 5) (pos 5)) lo
 unfolding cell_among block_stops stops_after log_values values_of expansion_of table_of_rules cells_along stops_from move_of
 is_absent = refl
 
--- rule 3 and its second part meet the window
+-- rule 3 and its second part meet the window: the one begins at instant 11 and the other at 13, a cell further
 windowed : walk_from four (0, 2) log (start_at (pos 10) (cell_with (pos 5) (pos 5))) (pos 13) (pos 14)
     ≡ record {
       rules = four;
@@ -42,10 +42,11 @@ windowed : walk_from four (0, 2) log (start_at (pos 10) (cell_with (pos 5) (pos 
       stops = stop_at (pos 13) (cell_with (pos 7) (pos 5)) ∷ [];
       reads = 4;
       unread = 2;
-      begins = pos 11 ∷ pos 13 ∷ [];
+      nodes = record { begin = pos 11; cell = cell_with (pos 5) (pos 5); inside = 1 ∷ 0 ∷ 1 ∷ 0 ∷ [] }
+          ∷ record { begin = pos 13; cell = cell_with (pos 6) (pos 5); inside = 1 ∷ 0 ∷ [] } ∷ [];
     }
-unfolding begins_left in_window block_stops stops_after log_values values_of expansion_of table_of_rules cells_along stops_from move_of
-    block_budget opened_count nodes_in parsed bounding_box_of box_round
+unfolding nodes_left in_window block_stops stops_after log_values values_of expansion_of table_of_rules cells_along stops_from move_of
+    block_budget opened_count nodes_in parsed bounding_box_of box_round displacement_of
 windowed = refl
 
 -- the whole block is read for five reads; up to the first movement they are four, since rule 3 and its first part are
@@ -54,15 +55,15 @@ abbrev whole : ℤ → ℕ
 whole = reads_to (walk_from four (0, 2) log (start_at (pos 10) (cell_with (pos 5) (pos 5))) (pos 10) (pos 20))
 
 all_reads : whole (pos 20) ≡ 5
-unfolding begins_left nodes_in parsed table_of_rules bounding_box_of box_round cells_along move_of
+unfolding nodes_left nodes_in parsed table_of_rules bounding_box_of box_round cells_along move_of
 all_reads = refl
 
 reads_to_a_movement : whole (pos 11) ≡ 4
-unfolding begins_left nodes_in parsed table_of_rules bounding_box_of box_round cells_along move_of
+unfolding nodes_left nodes_in parsed table_of_rules bounding_box_of box_round cells_along move_of
 reads_to_a_movement = refl
 
 reads_to_the_anchor : whole (pos 10) ≡ 2
-unfolding begins_left nodes_in parsed table_of_rules bounding_box_of box_round cells_along move_of
+unfolding nodes_left nodes_in parsed table_of_rules bounding_box_of box_round cells_along move_of
 reads_to_the_anchor = refl
 
 -- a window that ends before it begins

@@ -17,9 +17,9 @@ use Rattle.rule_store.specs.Expansion.{expansion_of, values_of}
 use Rattle.rule_store.specs.Log.{log_values}
 use Rattle.rule_store.specs.Nodes.{RuleNode, Parsed, after, block_budget, is_opened, leaf, nodes_in, opened_count, parsed, parsed_with, unparsed}
 use Rattle.rule_store.proofs.NodeLemmas.{parsed-terminals}
-use Rattle.log_cursor.specs.Walk.{begin_of, begins_left, opened_left, reads_to, walk_from}
+use Rattle.log_cursor.specs.Walk.{WalkNode, begin_of, nodes_left, opened_left, reads_to, walk_from, walk_node}
 use Rattle.log_cursor.specs.declared.start.Start.{Start}
-use Rattle.log_cursor.proofs.WalkLemmas.{begins_left-empty}
+use Rattle.log_cursor.proofs.WalkLemmas.{nodes_left-empty}
 
 -- a node ends among so many terminals
 abbrev IsAmong : ℕ → RuleNode → Type 0
@@ -160,16 +160,16 @@ module _ (rules : RulesView) (from to instant : ℤ) (window : from ≤ℤ int_m
             rw (le_z-from from (int_min instant to) window, longer, late) (grind (arith, ints, late, least))
       ]
 
-  pub begins_left-count : (symbols : List ℕ) →
-      length (filter (λ begin. le_z begin instant) (begins_left rules from to start symbols))
+  pub nodes_left-count : (symbols : List ℕ) →
+      length (filter (λ node. le_z node.begin instant) (nodes_left rules from to start symbols))
       ≡ opened_left rules from (int_min instant to) start symbols
-  unfolding begins_left opened_count
-  begins_left-count symbols =
+  unfolding nodes_left opened_count
+  nodes_left-count symbols =
       let nodes = nodes_in rules symbols in
       let early : RuleNode → Bool = λ node. le_z (begin_of start.instant node) instant in
       let opened : RuleNode → Bool = is_opened rules start.instant from to in
-      ap length (filter-map (λ begin. le_z begin instant) (begin_of start.instant) (filter opened nodes))
-      ∙ length-map (filter early (filter opened nodes)) (begin_of start.instant)
+      ap length (filter-map (λ (node : WalkNode). le_z node.begin instant) (walk_node rules start) (filter opened nodes))
+      ∙ length-map (filter early (filter opened nodes)) (walk_node rules start)
       ∙ ap length (sym (filter_and early opened nodes))
       ∙ ap length (filter_agree (λ node. early node && opened node)
       (is_opened rules start.instant from (int_min instant to)) is_opened-by nodes)
@@ -184,9 +184,9 @@ reads_to-walk_from rules places log start from to instant window =
       | inl some ↦
           let longer : from ≤ℤ to = grind (arith, ints, some) in
           let both : from ≤ℤ int_min instant to = omega (arith, ints, window, longer, least) in
-          let count = begins_left-count rules from to instant both start log in
+          let count = nodes_left-count rules from to instant both start log in
           let fewer = opened_count-later rules start.instant from (int_min instant to) instant window log
           (omega (arith, ints, least)) in
           rw (some, le_z-from from instant window) (omega (arith, count, fewer))
-      | inr none ↦ rw (none, begins_left-empty rules log start from to none) (omega arith)
+      | inr none ↦ rw (none, nodes_left-empty rules log start from to none) (omega arith)
     ]

@@ -12,7 +12,7 @@ use Rattle.log_cursor.specs.Start.{IsWayOf}
 use Rattle.log_cursor.specs.Turn.{IsWalkingInTime, has_hull, is_any}
 use Rattle.log_cursor.specs.Walk.{WalkView, reads_to, stops_left, walk_of}
 use Rattle.log_cursor.specs.declared.start.Start.{Start}
-use Rattle.log_cursor.proofs.ExtentLemmas.{begins_left-count}
+use Rattle.log_cursor.proofs.ExtentLemmas.{nodes_left-count}
 use Rattle.log_cursor.proofs.TouchLemmas.{opened_left-count}
 use Rattle.log_cursor.proofs.TurnLemmas.{IsTurn, turn-absent, turn-before, turn-one, turn-onward, turn-opened, turn-reads, turn-rules}
 
@@ -34,7 +34,7 @@ in_time-first pending at from to first steps way is =
           reads = omega (
             arith,
             opened_left-count pending.rules from (int_min instant to) at pending.symbols,
-            begins_left-count pending.rules from to instant window at pending.symbols,
+            nodes_left-count pending.rules from to instant window at pending.symbols,
           );
         };
       };
@@ -95,5 +95,5 @@ module _ {first : WalkView} {stops : List Stop} {begun budget : ℕ} {from to : 
         arith,
         turn-reads {stops = (walking.each instant window before).stops} its,
         opened_left-count first.rules from (int_min instant to) next now.symbols,
-        begins_left-count first.rules from to instant window next now.symbols,
+        nodes_left-count first.rules from to instant window next now.symbols,
       ))

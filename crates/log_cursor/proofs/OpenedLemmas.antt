@@ -19,10 +19,11 @@ use Rattle.rule_store.specs.Log.{log_values}
 use Rattle.rule_store.proofs.CellLemmas.{cells_along-append, moved-none}
 use Rattle.rule_store.specs.Flaws.{AreRules}
 use Rattle.rule_store.specs.declared.entry.Entry.{Entry}
+use Rattle.log_cursor.specs.Needs.{RulesWithin}
 use Rattle.log_cursor.specs.Opened.{AreGoneOver, Has, IfAny, IsGoneOver, IsOutside, IsSearching, no_rules, rule_at}
 use Rattle.log_cursor.specs.Pending.{PendingView}
 use Rattle.log_cursor.specs.Start.{IsWayOf, start_past}
-use Rattle.log_cursor.specs.Touching.{IsDrawnIn, IsHitOf, start_of, touches_at}
+use Rattle.log_cursor.specs.Touching.{IsDrawnIn, IsHitOf, start_of, touches_at, touching_rule}
 use Rattle.log_cursor.specs.Turn.{IsWalking, has_hull, is_stop_in}
 use Rattle.log_cursor.specs.Walk.{opened_left, stops_left}
 use Rattle.log_cursor.specs.declared.opened.RuleAt.{RuleAt}
@@ -266,7 +267,9 @@ AreGoneOver-none rules region from table symbols at none = record {
 -- a search goes on from where a walk has come without a hit
 module _ (region : Region) (from to : ℤ) (start at : Start) (first now later : PendingView) (begun steps reads : ℕ)
     (walking : IsWalking (is_stop_in region) has_hull first.rules (stops_left first.rules from to start first.symbols)
-    (begun + (first.unread + opened_left first.rules from to start first.symbols)) from to now at steps) where
+    (begun + (first.unread + opened_left first.rules from to start first.symbols)) from to now at steps)
+    (opens : RulesWithin (touching_rule first.rules at now.symbols from to region)
+    (touching_rule first.rules start first.symbols from to region)) where
   pub IsHitOf-after : (found : Option Stop) → IfSome found (IsHitOf region from to at now later steps reads) →
       IfSome found (IsHitOf region from to start first later begun reads)
   IsHitOf-after None found = tt
@@ -277,10 +280,13 @@ module _ (region : Region) (from to : ℤ) (start at : Start) (first now later :
       let more : reads + (later.unread + opened_left first.rules from to (start_of hit) later.symbols)
       ≤ steps + (now.unread + opened_left first.rules from to at now.symbols) = rw walking.same at found.reads in
       let way : IsWayOf first.rules (start_of hit) later.symbols = rw walking.same at found.way in
+      let beyond : RulesWithin (touching_rule first.rules (start_of hit) later.symbols from to region)
+      (touching_rule first.rules at now.symbols from to region) = rw walking.same at found.opens in
       record {
         drawn = subst (λ stops. IsDrawnIn region stops left (Some hit)) (sym walking.all)
             (IsDrawnIn-after region walking.passed (stops_left first.rules from to at now.symbols) left (Some hit)
             walking.unwanted drawn);
         way = way;
+        opens = λ rule is. opens rule (beyond rule is);
         reads = omega (arith, more, walking.reads, opened_left-count first.rules from to at now.symbols);
       }

@@ -25,9 +25,9 @@ use Rattle.rule_store.proofs.CellLemmas.{displacement_of-columns, displacement_o
 use Rattle.rule_store.proofs.NodeLemmas.{parsed-terminals}
 use Rattle.log_cursor.specs.Start.{start_past}
 use Rattle.log_cursor.specs.Needs.{RulesWithin}
-use Rattle.log_cursor.specs.Touching.{is_rule_of, terminal_values, touches_at, touching_count, touching_left, touching_rule}
+use Rattle.log_cursor.specs.Touching.{is_rule_of, touches_at, touching_count, touching_left, touching_rule}
 use Rattle.log_cursor.specs.Turn.{has_hull, is_opening, opening_count, opening_nodes, opening_rule}
-use Rattle.log_cursor.specs.Walk.{opened_left}
+use Rattle.log_cursor.specs.Walk.{opened_left, terminal_values}
 use Rattle.log_cursor.specs.declared.start.Start.{Start}
 use Rattle.log_cursor.proofs.RuleLemmas.{nodes_in-parts}
 

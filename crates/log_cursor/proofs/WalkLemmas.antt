@@ -25,7 +25,7 @@ use Rattle.rule_store.proofs.LogLemmas.{stops_after-none}
 use Rattle.rule_store.proofs.NodeLemmas.{opened_count-none}
 use Rattle.log_cursor.specs.Pending.{PendingView}
 use Rattle.log_cursor.specs.Start.{start_past}
-use Rattle.log_cursor.specs.Walk.{at_rest, begin_of, begins_left, walk_from, stops_left, walk_of}
+use Rattle.log_cursor.specs.Walk.{at_rest, nodes_left, walk_from, walk_node, stops_left, walk_of}
 use Rattle.log_cursor.specs.declared.start.Start.{Start}
 use Rattle.log_cursor.proofs.RuleLemmas.{stops_after-parts}
 use Rattle.log_cursor.proofs.StopLemmas.{filter-stops_from, is_between-after, is_between-before, stops_after-first, symbol_stops, symbol_stops-absent, symbol_stops-fail, symbol_stops-terminal}
@@ -70,7 +70,7 @@ stops_left-end rules from to start symbols end = rw (end, stops_after-none rules
 -- a walk with nothing left
 pub walk_of-none : (pending : PendingView) (start : Start) (from to : ℤ) → pending.symbols ≡ [] → pending.unread ≡ 0 →
     walk_of pending None start from to ≡ at_rest pending.rules pending.places
-unfolding begins_left nodes_in
+unfolding nodes_left nodes_in
 walk_of-none pending start from to symbols unread =
     rw (
       stops_left-end pending.rules from to start pending.symbols symbols,
@@ -88,11 +88,11 @@ in_window-empty from to (stop ∷ stops) empty =
     rw none (in_window-empty from to stops empty)
 
 -- and in it no rule is opened
-pub begins_left-empty : (rules : RulesView) (log : List ℕ) (start : Start) (from to : ℤ) → le_z from to ≡ false →
-    begins_left rules from to start log ≡ []
-unfolding begins_left
-begins_left-empty rules log start from to none =
-    ap (map (begin_of start.instant)) (filter-none (is_opened rules start.instant from to) (nodes_in rules log)
+pub nodes_left-empty : (rules : RulesView) (log : List ℕ) (start : Start) (from to : ℤ) → le_z from to ≡ false →
+    nodes_left rules from to start log ≡ []
+unfolding nodes_left
+nodes_left-empty rules log start from to none =
+    ap (map (walk_node rules start)) (filter-none (is_opened rules start.instant from to) (nodes_in rules log)
     (λ node among. rw none refl))
 
 -- a walk that was begun over it has nothing left
@@ -103,7 +103,7 @@ walk_from-empty rules places log start from to empty =
     let none : le_z from to ≡ false = grind (arith, ints) in
     rw (
       in_window-empty from to (block_stops rules start.instant start.cell log) empty,
-      begins_left-empty rules log start from to none,
+      nodes_left-empty rules log start from to none,
       none,
     ) refl
 

@@ -1,5 +1,5 @@
 -- What a search for the first stop in a region finds, and which rules it opens; and which rules hold an instant.
-use Rattle.std.specs.Prelude.{◌≡◌, ℕ, ◌+◌, ◌≤◌, ℤ, Bool, true, false, ◌&&◌, List, [], ◌++◌, length, map, filter, find, slice_index, option_to_list, Option, Some, None, IfNone, IfSome}
+use Rattle.std.specs.Prelude.{◌≡◌, ℕ, ◌+◌, ◌≤◌, ℤ, Bool, true, false, ◌&&◌, List, [], ◌++◌, length, filter, find, option_to_list, Option, Some, None, IfNone, IfSome}
 use Rattle.std.specs.List.{list_any}
 use Rattle.std.specs.Str.{bytes_eq}
 use Rattle.track_types.specs.Region.{in_region, intersects_region}
@@ -14,9 +14,10 @@ use Rattle.rule_store.specs.Expansion.{expansion_of}
 use Rattle.rule_store.specs.Log.{block_stops, in_window}
 use Rattle.rule_store.specs.Nodes.{RuleNode, is_opened, meets, nodes_in}
 use Rattle.track_types.specs.Boxes.{moved_box}
+use Rattle.log_cursor.specs.Needs.{RulesWithin}
 use Rattle.log_cursor.specs.Pending.{PendingView}
 use Rattle.log_cursor.specs.Start.{IsWayOf, start_at}
-use Rattle.log_cursor.specs.Walk.{opened_left, stops_left}
+use Rattle.log_cursor.specs.Walk.{opened_left, stops_left, terminal_values}
 use Rattle.log_cursor.specs.declared.start.Start.{Start}
 
 -- the first of some stops in a region
@@ -32,10 +33,6 @@ first_hit_of rules log start from to region =
 abbrev pub touches_at : Region → Cell → Option CellBox → Bool
 touches_at region cell None = false
 touches_at region cell (Some hull) = intersects_region region (moved_box cell hull)
-
--- the values of terminals
-abbrev pub terminal_values : RulesView → List ℕ → List ℕ
-terminal_values rules terminals = map (slice_index rules.alphabet) terminals
 
 -- the placed box of a rule's node has a cell of the region, in a block with its anchor in this cell
 abbrev pub is_touched : RulesView → Cell → Region → RuleNode → Bool
@@ -88,12 +85,14 @@ pub record IsDrawnIn (region : Region) (before now : List Stop) (hit : Option St
 abbrev pub start_of : Stop → Start
 start_of stop = start_at stop.instant stop.cell
 
--- A hit among the stops of symbols from a start: the symbols that are left lead on from it, and have the stops after it,
--- and the reads were those of a walk that draws all stops.
+-- A hit among the stops of symbols from a start: the symbols that are left lead on from it, have the stops after it, and open
+-- no other rules, and the reads were those of a walk that draws all stops.
 pub record IsHitOf (region : Region) (from to : ℤ) (start : Start) (before now : PendingView) (begun steps : ℕ) (hit : Stop) :
     Type 0 where
   pub drawn : IsDrawnIn region (stops_left before.rules from to start before.symbols)
       (stops_left before.rules from to (start_of hit) now.symbols) (Some hit)
   pub way : IsWayOf before.rules (start_of hit) now.symbols
+  pub opens : RulesWithin (touching_rule before.rules (start_of hit) now.symbols from to region)
+      (touching_rule before.rules start before.symbols from to region)
   pub reads : steps + (now.unread + opened_left before.rules from to (start_of hit) now.symbols)
       ≤ begun + (before.unread + opened_left before.rules from to start before.symbols)

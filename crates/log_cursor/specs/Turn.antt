@@ -14,8 +14,8 @@ use Rattle.rule_store.specs.Cells.{displacement_of, moved}
 use Rattle.rule_store.specs.Nodes.{RuleNode, meets, nodes_in}
 use Rattle.log_cursor.specs.Pending.{PendingView}
 use Rattle.log_cursor.specs.Start.{IsWayOf}
-use Rattle.log_cursor.specs.Touching.{is_rule_of, terminal_values}
-use Rattle.log_cursor.specs.Walk.{reads_to, stops_left, WalkView}
+use Rattle.log_cursor.specs.Touching.{is_rule_of}
+use Rattle.log_cursor.specs.Walk.{reads_to, stops_left, terminal_values, WalkView}
 use Rattle.log_cursor.specs.declared.start.Start.{Start}
 
 -- a walk that draws stops wants every one

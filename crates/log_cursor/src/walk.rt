@@ -1,10 +1,12 @@
 ghost use Rattle.std.specs.Prelude.{◌≡◌, ◌++◌, ◌+◌, ◌≤◌, ℤ, ◌≤ℤ◌, [], ◌∷◌, IfNone, IfOk, IfSome, option_to_list};
 ghost use Rattle.step_count.specs.Reads.{ReadsWithin};
 ghost use Rattle.rule_store.specs.Log.{in_window, log_of, stop_at};
-ghost use Rattle.rule_store.specs.Needs.{log_needs, places_of};
+ghost use Rattle.rule_store.specs.Needs.{places_of};
 ghost use Rattle.rule_store.specs.Nodes.{block_budget};
+ghost use Rattle.log_cursor.specs.Needs.{walk_needs};
 ghost use Rattle.log_cursor.specs.Start.{IsPlaced};
-ghost use Rattle.log_cursor.specs.Touching.{IsDrawnIn};
+ghost use Rattle.log_cursor.specs.Touching.{IsDrawnIn, touches_at};
+ghost use Rattle.log_cursor.specs.Turn.{has_hull};
 ghost use Rattle.log_cursor.specs.Walk.{at_rest, IsDrawnInTime, reads_to, walk_from};
 
 use crate::pending::Pending;
@@ -97,11 +99,13 @@ impl<'a> BlockWalk<'a> {
     ///
     /// It passes over what `first_hit` does, and takes no memory.
     pub fn draw_in<L: Reads>(&mut self, test: &RegionTest, steps: &mut Steps<L>) -> Option<Stop>
-        requires may { ReadsWithin (log_needs self.old.places) L.may }
+        requires may { ReadsWithin (walk_needs (touches_at test.now.region) self.old) L.may }
         ensures drawn { IsDrawnIn test.now.region self.old.stops self.new.stops result }
         ensures cost { steps.new + self.new.reads ≤ steps.old + self.old.reads }
         ensures rules { self.new.rules ≡ self.old.rules }
         ensures places { self.new.places ≡ self.old.places }
+        ensures needs { ReadsWithin (walk_needs (touches_at test.now.region) self.new)
+            (walk_needs (touches_at test.now.region) self.old) }
     {
         if let Some(stop) = self.anchor.take() {
             if test.holds(stop.cell) {
@@ -122,7 +126,8 @@ impl<'a> BlockWalk<'a> {
 }
 
 impl<'a> Lazy for BlockWalk<'a> {
-    ghost use Rattle.rule_store.specs.Needs.{log_needs};
+    ghost use Rattle.log_cursor.specs.Needs.{walk_needs};
+    ghost use Rattle.log_cursor.specs.Turn.{has_hull};
 
     type Item = Stop;
 
@@ -130,10 +135,10 @@ impl<'a> Lazy for BlockWalk<'a> {
 
     ghost budget = { λ w. w.reads };
 
-    ghost needs = { λ w. log_needs w.places };
+    ghost needs = { walk_needs has_hull };
 
     fn draw<L: Reads>(&mut self, steps: &mut Steps<L>) -> Option<Stop>
-        requires may { ReadsWithin (log_needs self.old.places) L.may }
+        requires may { ReadsWithin (walk_needs has_hull self.old) L.may }
         ensures found { self.old.stops ≡ option_to_list result ++ self.new.stops }
         ensures none { IfNone result (self.old.stops ≡ []) }
         ensures cost { steps.new + self.new.reads ≤ steps.old + self.old.reads }
@@ -141,7 +146,7 @@ impl<'a> Lazy for BlockWalk<'a> {
             (IsDrawnInTime (reads_to self.old) (reads_to self.new) steps.old steps.new) }
         ensures rules { self.new.rules ≡ self.old.rules }
         ensures places { self.new.places ≡ self.old.places }
-        ensures needs { ReadsWithin (log_needs self.new.places) (log_needs self.old.places) }
+        ensures needs { ReadsWithin (walk_needs has_hull self.new) (walk_needs has_hull self.old) }
     {
         if let Some(anchor) = self.anchor.take() {
             return Some(anchor);

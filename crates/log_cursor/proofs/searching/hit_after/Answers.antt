@@ -153,6 +153,7 @@ pub returns-then-not-is_rule-clause-left : goal.returns-then-not-is_rule-clause-
 returns-then-not-is_rule-clause-left g c =
     let at = goal.at.returns-then-not-is_rule-clause-left g c in
     let its = within g at.After-is_rule in
+    let seeking = turn g at.After-after-next c.loop-at.invariant.walking in
     let turn = turn g at.After-after-next c.loop-at.invariant.drawing in
     let first = c.args.pending.now in
     let here = c.after-next.result in
@@ -173,6 +174,9 @@ returns-then-not-is_rule-clause-left g c =
         end = tt;
       };
       way = turn-way turn;
+      opens = λ rule is. touching_rule-from first.rules (word c.args.from) (word c.args.to) region c.args.start first.symbols rule
+          (c.loop-at.invariant.opens rule (turn-rules-left seeking rule (touching_rule-to first.rules (word c.args.from)
+          (word c.args.to) region here c.next.new.self.symbols rule is)));
       reads = omega (arith, turn-reads turn, count);
     } in
     rw kept (rw (from, to) at hit)
@@ -300,8 +304,18 @@ returns-then-opened-ge-FORGOTTEN-clause-left g c =
     c.open.ensures.unread c.open.ensures.cost in
     let from : word c.args.from ≡ c.args.from = to_z-of_z w64 _ (search rules) in
     let to : word c.args.to ≡ c.args.to = to_z-of_z w64 _ (search rules) in
-    let found = IsHitOf-after c.args.test.now.region (word c.args.from) (word c.args.to) c.args.start c.loop-at.at
-    c.args.pending.now c.open.new.self c.hit_beyond.new.pending c.args.steps.now c.open.new.steps c.hit_beyond.new.steps walking
+    let first = c.args.pending.now in
+    let region = c.args.test.now.region in
+    let later = c.open.new.self in
+    let opens : RulesWithin (touching_rule first.rules c.loop-at.at later.symbols (word c.args.from) (word c.args.to) region)
+    (touching_rule first.rules c.args.start first.symbols (word c.args.from) (word c.args.to) region) =
+    λ symbol touches. touching_rule-from first.rules (word c.args.from) (word c.args.to) region c.args.start first.symbols symbol
+    (c.loop-at.invariant.opens symbol (turn-opened-rules (turn g at.After-after-next c.loop-at.invariant.walking) its.0 its.1 its.2
+    c.next.ensures.sound rule later c.open.new.steps c.open.ensures.rules c.open.ensures.symbols c.open.ensures.unread
+    c.open.ensures.cost symbol
+    (touching_rule-to first.rules (word c.args.from) (word c.args.to) region c.loop-at.at later.symbols symbol touches))) in
+    let found = IsHitOf-after region (word c.args.from) (word c.args.to) c.args.start c.loop-at.at
+    first later c.hit_beyond.new.pending c.args.steps.now c.open.new.steps c.hit_beyond.new.steps walking opens
     c.hit_beyond.result c.hit_beyond.ensures.left in
     rw (from, to) at found
 

@@ -21,7 +21,7 @@ use Rattle.log_cursor.specs.declared.start.Start.{Start}
 use Rattle.log_cursor.proofs.StopLemmas.{word}
 use Rattle.log_cursor.proofs.HitLemmas.{outside-along, touches_at-some}
 use Rattle.log_cursor.proofs.OpenedLemmas.{AreGoneOver-none, turn-again, turn-kept, turn-passed}
-use Rattle.log_cursor.proofs.TouchLemmas.{opened_left-count, touching_left-count, touching_rule-from}
+use Rattle.log_cursor.proofs.TouchLemmas.{opened_left-count, touching_left-count, touching_rule-from, touching_rule-to}
 use Rattle.log_cursor.proofs.TurnLemmas.{IsTurn, find-passed, taken-near, taken-next, turn-fewer, turn-held, turn-hull, turn-opened, turn-opened-fewer, turn-opened-rules, turn-own, turn-reads, turn-rules, turn-rules-left, turn-stop, turn-way, walking-end, walking-over}
 use Rattle.log_cursor.proofs.searching.hit_beyond.Given.{Over}
 use Rattle.log_cursor.proofs.searching.hit_beyond.Goals as goal
@@ -150,6 +150,7 @@ pub returns-then-not-is_rule-clause-left : goal.returns-then-not-is_rule-clause-
 returns-then-not-is_rule-clause-left g c =
     let at = goal.at.returns-then-not-is_rule-clause-left g c in
     let its = within g at.After-is_rule in
+    let seeking = turn g at.After-after-next c.loop-at.invariant.0.walking in
     let turn = turn g at.After-after-next c.loop-at.invariant.0.drawing in
     let first = c.args.pending.now in
     let here = c.after-next.result in
@@ -170,6 +171,9 @@ returns-then-not-is_rule-clause-left g c =
         end = tt;
       };
       way = turn-way turn;
+      opens = λ rule is. touching_rule-from first.rules (word c.args.from) (word c.args.to) region c.args.start first.symbols rule
+          (c.loop-at.invariant.2 rule (turn-rules-left seeking rule (touching_rule-to first.rules (word c.args.from)
+          (word c.args.to) region here c.next.new.self.symbols rule is)));
       reads = omega (arith, turn-reads turn, count);
     } in
     rw kept (rw (from, to) at hit)

@@ -1,15 +1,17 @@
 use Rattle.std.proofs.Common.{◌≡◌, ◌+◌, ◌≤◌, [], IsTrue, None, Some, refl, subst, sym, ◌∙◌, arith}
 use Rattle.std.specs.Option.{IfSome, option_to_list}
 use Rattle.std.proofs.lemmas.Int.{ints}
+use Rattle.step_count.specs.Reads.{ReadsWithin}
 use Rattle.track_types.specs.Near.{IsCellAsked}
 use Rattle.track_types.specs.declared.stop.Stop.{Stop}
-use Rattle.rule_store.specs.Needs.{log_needs}
 use Rattle.rule_store.proofs.NodeLemmas.{opened_count-none}
-use Rattle.log_cursor.specs.Touching.{IsDrawnIn, first_among, start_of}
-use Rattle.log_cursor.specs.Walk.{WalkView, opened_left, stops_left}
-use Rattle.log_cursor.proofs.NeedsLemmas.{search-log}
+use Rattle.log_cursor.specs.Needs.{RulesWithin, walk_needs, walk_rule}
+use Rattle.log_cursor.specs.Touching.{IsDrawnIn, first_among, start_of, touches_at, touching_rule}
+use Rattle.log_cursor.specs.Walk.{WalkView, opened_left, stops_left, walk_of}
+use Rattle.log_cursor.proofs.NeedsLemmas.{opening_rule-none, search-walk, walk_needs-on, walk_rule-of}
 use Rattle.log_cursor.proofs.SearchLemmas.{IsDrawnIn-after, IsDrawnIn-none}
 use Rattle.log_cursor.proofs.StopLemmas.{word}
+use Rattle.log_cursor.proofs.TouchLemmas.{touching_rule-from, touching_rule-to}
 use Rattle.log_cursor.proofs.WalkLemmas.{stops_left-end}
 use Rattle.log_cursor.proofs.WayLemmas.{IsWayOf-none}
 use Rattle.log_cursor.proofs.walk.BlockWalk.draw_in.Given.{Over}
@@ -43,8 +45,11 @@ holds-requires g c =
 
 pub hit_after-found-requires-clause-may : goal.hit_after-found-requires-clause-may
 hit_after-found-requires-clause-may g c = λ read needed.
-    c.requires.may read (subst (λ (w : WalkView). IsTrue (log_needs w.places read)) c.self.view_is
-    (search-log c.self.inside.pending.places _ read needed))
+    let walk = c.self.inside in
+    let from : word walk.from ≡ walk.from = omega (arith, ints) in
+    let to : word walk.to ≡ walk.to = omega (arith, ints) in
+    c.requires.may read (subst (λ (w : WalkView). IsTrue (walk_needs (touches_at c.args.test.now.region) w read)) c.self.view_is
+    (search-walk c.args.test.now.region walk.pending walk.anchor walk.at walk.from walk.to read (rw (from, to) at needed)))
 
 pub invariant_of-self-in_default-found : goal.invariant_of-self-in_default-found
 invariant_of-self-in_default-found g c =
@@ -104,3 +109,43 @@ returns-clause-drawn g c =
     let drawn : IsDrawnIn region stops left (Some hit) = rw (from, to) at c.in-Some-found.ensures.left.drawn in
     rw (kept, c.take.ensures.after, c.hit_after-found.ensures.rules) (subst (λ (w : WalkView). IsDrawnIn region w.stops left (Some hit))
     c.self.view_is (IsDrawnIn-after region (option_to_list walk.anchor) stops left (Some hit) outside drawn))
+
+pub returns-then-holds-clause-needs : goal.returns-then-holds-clause-needs
+unfolding walk_rule
+returns-then-holds-clause-needs g c = λ read is.
+    subst (λ (w : WalkView). IsTrue (walk_needs (touches_at c.args.test.now.region) w read)) c.self.view_is is
+
+pub returns-in_default-found-clause-needs : goal.returns-in_default-found-clause-needs
+returns-in_default-found-clause-needs g c =
+    let walk = c.self.inside in
+    let region = c.args.test.now.region in
+    rw c.take.ensures.after (subst (λ (w : WalkView). ReadsWithin
+    (walk_needs (touches_at region) (walk_of c.end.new.self None walk.at walk.from walk.to))
+    (walk_needs (touches_at region) w)) c.self.view_is
+    (walk_needs-on (touches_at region) (λ cell. refl) c.end.new.self None walk.at walk.from walk.to
+    (walk_of walk.pending walk.anchor walk.at walk.from walk.to) (c.end.ensures.places ∙ c.hit_after-found.ensures.places)
+    (λ rule is. absurd (cc (rw (
+      c.end.ensures.symbols,
+      opening_rule-none c.end.new.self.rules (touches_at region) walk.from walk.to walk.at rule,
+    ) at is)))))
+
+pub returns-clause-needs : goal.returns-clause-needs
+returns-clause-needs g c =
+    let walk = c.self.inside in
+    let region = c.args.test.now.region in
+    let hit = c.in-Some-found.hit in
+    let from : word walk.from ≡ walk.from = omega (arith, ints) in
+    let to : word walk.to ≡ walk.to = omega (arith, ints) in
+    let kept : word hit.instant ≡ hit.instant = omega (arith, ints) in
+    let now = c.hit_after-found.new.pending in
+    let opens : RulesWithin (touching_rule walk.pending.rules (start_of hit) now.symbols walk.from walk.to region)
+    (touching_rule walk.pending.rules walk.at walk.pending.symbols walk.from walk.to region) =
+    rw (from, to) at c.in-Some-found.ensures.left.opens in
+    rw (kept, c.take.ensures.after) (subst (λ (w : WalkView). ReadsWithin (walk_needs (touches_at region) (walk_of now None (start_of hit) walk.from walk.to))
+    (walk_needs (touches_at region) w)) c.self.view_is
+    (walk_needs-on (touches_at region) (λ cell. refl) now None (start_of hit) walk.from walk.to
+    (walk_of walk.pending walk.anchor walk.at walk.from walk.to) c.hit_after-found.ensures.places
+    (λ rule is. walk_rule-of (touches_at region) (λ cell. refl) walk.pending walk.anchor walk.at walk.from walk.to rule
+    (touching_rule-to walk.pending.rules walk.from walk.to region walk.at walk.pending.symbols rule (opens rule
+    (touching_rule-from walk.pending.rules walk.from walk.to region (start_of hit) now.symbols rule
+    (rw c.hit_after-found.ensures.rules at is)))))))

@@ -5,12 +5,13 @@ use Rattle.std.proofs.lemmas.Bool.{leb-false, leb-true}
 use Rattle.std.proofs.lemmas.Int.{ints}
 use Rattle.step_count.specs.Reads.{ofRule, ofSymbol}
 use Rattle.rule_store.specs.Needs.{is_among}
-use Rattle.rule_store.proofs.NeedsLemmas.{log_needs-same}
-use Rattle.log_cursor.specs.Turn.{IsWalking, has_hull, is_any}
+use Rattle.log_cursor.specs.Needs.{walk_needs, walk_rule}
+use Rattle.log_cursor.specs.Turn.{IsWalking, has_hull, is_any, opening_rule}
 use Rattle.log_cursor.specs.Walk.{WalkView, walk_of}
 use Rattle.log_cursor.proofs.InTimeLemmas.{in_time-absent, in_time-before, in_time-first, in_time-opened, in_time-stop}
+use Rattle.log_cursor.proofs.NeedsLemmas.{walk_needs-on, walk_rule-of}
 use Rattle.log_cursor.proofs.TouchLemmas.{opened_left-count}
-use Rattle.log_cursor.proofs.TurnLemmas.{IsTurn, all-left, none-passed, taken-next, turn-absent, turn-before, turn-fewer, turn-opened, turn-opened-fewer, turn-reads, turn-rules, turn-stop, turn-way, walking-end, walking-over, walking-view}
+use Rattle.log_cursor.proofs.TurnLemmas.{IsTurn, all-left, none-passed, taken-next, turn-absent, turn-before, turn-fewer, turn-opened, turn-opened-fewer, turn-opened-rules, turn-own, turn-reads, turn-rules, turn-rules-left, turn-stop, turn-way, walking-end, walking-over, walking-view}
 use Rattle.log_cursor.proofs.WalkLemmas.{none_unless}
 use Rattle.log_cursor.proofs.walk.BlockWalkLazy.draw.Given.{Over}
 use Rattle.log_cursor.proofs.walk.BlockWalkLazy.draw.Goals as goal
@@ -35,6 +36,12 @@ loop-self-init g c =
             unwanted = refl;
             reads = omega (arith, count);
           });
+      opens = λ rule is.
+          let view : IsTrue (walk_rule has_hull (walk_of walk.pending walk.anchor walk.at walk.from walk.to) rule) =
+          walk_rule-of has_hull (λ cell. refl) walk.pending walk.anchor walk.at walk.from walk.to rule
+          (subst (λ (w : WalkView). IsTrue (opening_rule w.rules has_hull walk.from walk.to walk.at walk.pending.symbols rule))
+          (sym c.self.view_is) is) in
+          subst (λ (w : WalkView). IsTrue (walk_rule has_hull w rule)) c.self.view_is view;
       in_time = in_time-first walk.pending walk.at walk.from walk.to c.args.self.now c.args.steps.now c.self.invariant.way
           (ap (λ anchor. walk_of walk.pending anchor walk.at walk.from walk.to) (sym none) ∙ c.self.view_is);
     }
@@ -52,7 +59,10 @@ returns-in_err-entry g c =
       in_time = tt;
       rules = c.next.ensures.rules ∙ walking.same;
       places = c.next.ensures.places ∙ c.loop-self.invariant.places;
-      needs = log_needs-same (c.next.ensures.places ∙ c.loop-self.invariant.places);
+      needs = walk_needs-on has_hull (λ cell. refl) c.next.new.self None c.loop-self.self-inside.at
+          c.loop-self.self-inside.from c.loop-self.self-inside.to c.args.self.now
+          (c.next.ensures.places ∙ c.loop-self.invariant.places) (λ rule is. c.loop-self.invariant.opens rule
+          (rw (c.next.ensures.rules ∙ walking.same, facts.end ∙ sym facts.none) at is));
     })
 
 pub after-next-requires : goal.after-next-requires
@@ -89,6 +99,7 @@ loop-self-preserved-then-next-self g c =
         | then-next-self-via-else-next-self+then-is_none w ↦
             turn-absent its (none_unless c.in_ok-entry.entry.hull (w.is_none.ensures ∙ ap not w.if-is_none.true))
       ];
+      opens = λ rule is. c.loop-self.invariant.opens rule (turn-rules-left its rule is);
       in_time = elim (c.then-next-self.branch) [
         | then-next-self-via-then-next-self w ↦
             let ended : c.after-next.result.instant <ℤ c.loop-self.self-inside.from =
@@ -128,6 +139,9 @@ loop-self-preserved g c =
       walking = turn-opened (turn g at.After-after-next) its.1 its.2 its.0 c.next.ensures.sound
           (leb-true _ _ (sym c.is_rule.ensures ∙ c.if-is_rule.true)) c.open.new.self c.open.new.steps
           c.open.ensures.rules c.open.ensures.symbols c.open.ensures.unread c.open.ensures.cost;
+      opens = λ rule is. c.loop-self.invariant.opens rule (turn-opened-rules (turn g at.After-after-next) its.1 its.2 its.0
+          c.next.ensures.sound (leb-true _ _ (sym c.is_rule.ensures ∙ c.if-is_rule.true)) c.open.new.self c.open.new.steps
+          c.open.ensures.rules c.open.ensures.symbols c.open.ensures.unread c.open.ensures.cost rule is);
       in_time = in_time-opened c.loop-self.invariant.in_time (turn g at.After-after-next) its.2 its.0 c.next.ensures.sound
           (leb-true _ _ (sym c.is_rule.ensures ∙ c.if-is_rule.true)) c.open.new.self c.open.new.steps
           c.open.ensures.rules c.open.ensures.symbols c.open.ensures.unread c.open.ensures.cost;
@@ -180,7 +194,9 @@ returns g c =
       in_time = tt;
       rules = walking.same;
       places = c.loop-self.invariant.places;
-      needs = log_needs-same c.loop-self.invariant.places;
+      needs = walk_needs-on has_hull (λ cell. refl) c.loop-self.self-inside.pending None c.loop-self.self-inside.at
+          c.loop-self.self-inside.from c.loop-self.self-inside.to c.args.self.now c.loop-self.invariant.places
+          (λ rule is. c.loop-self.invariant.opens rule (rw walking.same at is));
     })
 
 pub invariant_of-self : goal.invariant_of-self
@@ -202,7 +218,9 @@ pub returns-in-Some-clause-places : goal.returns-in-Some-clause-places
 returns-in-Some-clause-places g c = search rules
 
 pub returns-in-Some-clause-needs : goal.returns-in-Some-clause-needs
-returns-in-Some-clause-needs g c = search rules
+unfolding walk_rule
+returns-in-Some-clause-needs g c = λ read is.
+    subst (λ (w : WalkView). IsTrue (walk_needs has_hull w read)) c.self.view_is is
 
 pub invariant_of-self-in-loop-self : goal.invariant_of-self-in-loop-self
 invariant_of-self-in-loop-self g c = grind (arith, common_steps)
@@ -226,7 +244,12 @@ pub open-requires-clause-roomy : goal.open-requires-clause-roomy
 open-requires-clause-roomy g c = grind (arith, common_steps)
 
 pub open-requires-clause-may : goal.open-requires-clause-may
-open-requires-clause-may g c = c.requires.may (ofRule c.in_ok-entry.entry.symbol) refl
+open-requires-clause-may g c =
+    let at = goal.at.open-requires-clause-may g c in
+    let its = within g at.After-is_rule in
+    c.requires.may (ofRule c.in_ok-entry.entry.symbol) (c.loop-self.invariant.opens c.in_ok-entry.entry.symbol
+    (turn-own (turn g at.After-after-next) its.1 its.2 its.0 c.next.ensures.sound
+    (leb-true _ _ (sym c.is_rule.ensures ∙ c.if-is_rule.true))))
 
 pub returns-in-loop-self-clause-rules : goal.returns-in-loop-self-clause-rules
 returns-in-loop-self-clause-rules g c = grind (arith, common_steps)
@@ -235,4 +258,9 @@ pub returns-in-loop-self-clause-places : goal.returns-in-loop-self-clause-places
 returns-in-loop-self-clause-places g c = grind (arith, common_steps)
 
 pub returns-in-loop-self-clause-needs : goal.returns-in-loop-self-clause-needs
-returns-in-loop-self-clause-needs g c = search rules
+returns-in-loop-self-clause-needs g c =
+    let its = turn g (goal.at.returns-in-loop-self-clause-needs g c).After-after-next in
+    rw c.loop-self.invariant.anchor (walk_needs-on has_hull (λ cell. refl) c.next.new.self None c.after-next.result
+    c.loop-self.self-inside.from c.loop-self.self-inside.to c.args.self.now
+    (c.next.ensures.places ∙ c.loop-self.invariant.places)
+    (λ rule is. c.loop-self.invariant.opens rule (turn-rules-left its rule (rw (turn-rules its) at is))))
