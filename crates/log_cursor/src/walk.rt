@@ -28,7 +28,7 @@ use track_types::{Cell, Lazy, Memory, Stop};
 ///
 /// Contracts see the rules, where the symbols of the log stand, the stops that are left, and a
 /// bound on the reads that are still to be made: for all these stops, and for those up to an
-/// instant.
+/// instant. They see the rule nodes that are still to be opened, and so which rules may be read.
 #[derive(Drop)]
 pub struct BlockWalk<'a> {
     pending: Pending<'a>,
