@@ -1,6 +1,8 @@
 -- The definitions, run on a worked block.
-use Rattle.std.proofs.Common.{◌≡◌, ℕ, ℤ, pos, Bool, true, false, List, [], ◌∷◌, map, Some, None, refl, sym, arith}
+use Rattle.std.proofs.Common.{◌≡◌, ℕ, ℤ, pos, Bool, true, false, List, [], ◌∷◌, map, Option, Some, None, refl, sym, arith}
 use Rattle.std.proofs.lemmas.Int.{ints}
+use Rattle.track_types.specs.declared.cell.Cell.{Cell}
+use Rattle.track_types.specs.declared.cell_box.CellBox.{CellBox}
 use Rattle.track_types.specs.declared.region.Region.{Region}
 use Rattle.track_types.specs.declared.region.Region.TheVariants.{Disc, Rect}
 use Rattle.rule_store.specs.View.{RulesView, rules_with}
@@ -11,9 +13,11 @@ use Rattle.rule_store.specs.Boxes.{bounding_box_of, box_round}
 use Rattle.rule_store.specs.Nodes.{block_budget, nodes_in, opened_count, parsed}
 use Rattle.list_laws.specs.Grown.{table_of_rules}
 use Rattle.spiral_code.specs.Spiral.{move_of}
+use Rattle.log_cursor.specs.Needs.{walk_rule}
 use Rattle.log_cursor.specs.Seek.{cell_among}
 use Rattle.log_cursor.specs.Start.{start_at}
-use Rattle.log_cursor.specs.Touching.{first_hit_of, holding_rule, touching_count}
+use Rattle.log_cursor.specs.Touching.{first_hit_of, holding_rule, touches_at, touching_count}
+use Rattle.log_cursor.specs.Turn.{has_hull}
 use Rattle.log_cursor.specs.Walk.{at_rest, nodes_left, reads_to, walk_from}
 use Rattle.log_cursor.specs.declared.start.Start.{Start}
 use Rattle.log_cursor.proofs.WalkLemmas.{walk_from-empty}
@@ -111,3 +115,20 @@ holds_instants : map holding (pos 10 ∷ pos 11 ∷ pos 12 ∷ pos 13 ∷ [])
     ≡ (false ∷ false ∷ []) ∷ (true ∷ false ∷ []) ∷ (true ∷ false ∷ []) ∷ (false ∷ false ∷ []) ∷ []
 unfolding holding_rule nodes_in parsed table_of_rules expansion_of bounding_box_of box_round cells_along move_of
 holds_instants = refl
+
+-- the rules that a walk over a window up to instant 14 opens of both, by a test
+abbrev opening : (Cell → Option CellBox → Bool) → ℤ → List Bool
+opening may from = map (walk_rule may (walk_from apart (0, 2) (2 ∷ 3 ∷ []) anchor from (pos 14))) (2 ∷ 3 ∷ [])
+
+-- rule 2 where the window meets it; rule 3 has no box
+opens_in_window : map (opening has_hull) (pos 12 ∷ pos 13 ∷ []) ≡ (true ∷ false ∷ []) ∷ (false ∷ false ∷ []) ∷ []
+unfolding walk_rule nodes_left nodes_in parsed table_of_rules expansion_of bounding_box_of box_round cells_along displacement_of
+    move_of
+opens_in_window = refl
+
+-- the movement leads to (6, 5): a walk for another cell opens nothing
+opens_for_a_cell : map (λ x. opening (touches_at (Rect (pos x) (pos 5) (pos x) (pos 5))) (pos 11)) (6 ∷ 7 ∷ [])
+    ≡ (true ∷ false ∷ []) ∷ (false ∷ false ∷ []) ∷ []
+unfolding walk_rule nodes_left nodes_in parsed table_of_rules expansion_of bounding_box_of box_round cells_along displacement_of
+    move_of
+opens_for_a_cell = refl
