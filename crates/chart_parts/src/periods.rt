@@ -1,5 +1,6 @@
 ghost use Rattle.std.specs.Prelude.{◌≡◌, ◌<◌, ◌≤◌, All, IfOk, length, map};
 ghost use Rattle.std.specs.List.{zip};
+ghost use Rattle.track_types.specs.Frame.{IsFrame};
 ghost use Rattle.chart_parts.specs.PeriodWith.{AreBlocksByPeriod, ArePlaced, period_of_blocks, period_with, period_run_length, without_blocks};
 ghost use Rattle.snapshots.specs.Parts.{numbers_in};
 
@@ -22,13 +23,13 @@ pub fn periods_of(
     heads: &[Head],
     lengths: &[u32],
 ) -> Result<Vec<PeriodParts>, Memory>
-    requires period { 0 < frame.period }
+    requires frame { IsFrame frame }
     requires same { length lengths.now ≡ length heads.now }
     requires blocks { AreBlocksByPeriod frame objects (zip heads.now lengths.now) }
     ensures { IfOk result (λ periods. periods.items
         ≡ map (period_of_blocks frame objects (zip heads.now lengths.now)) (numbers_in frame)) }
 {
-    let count = frame.span.div_ceil(frame.period);
+    let count = frame.timeline().periods();
     let mut periods = Vec::with_capacity(alloc, count as usize)?;
     let mut start = 0;
     for number in 0..count {

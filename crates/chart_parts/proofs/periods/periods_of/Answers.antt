@@ -19,7 +19,7 @@ period_with-requires-clause-placed c =
     rw (heads-next c.args.heads.now c.args.lengths.now c.requires.same c.loop-number.number c.loop-number.start
     c.loop-number.invariant.behind c.run_of.result c.run_of.ensures.exact)
     (placed_in c.args.frame c.args.objects blocks c.requires.blocks c.loop-number.number
-    (omega (arith, c.div_ceil-count.ensures)))
+    (omega (arith, rw (c.timeline.ensures.span, c.timeline.ensures.period) at c.periods-count.ensures)))
 
 pub period_with-requires-clause-objects : goal.period_with-requires-clause-objects
 period_with-requires-clause-objects c =

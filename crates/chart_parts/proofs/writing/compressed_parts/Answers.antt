@@ -7,13 +7,13 @@ use Rattle.chart_parts.specs.Cut.{IsCutOf}
 use Rattle.chart_parts.specs.Header.{frame_of}
 use Rattle.chart_parts.specs.PartsOf.{compressed_parts_of, period_of_chart}
 use Rattle.chart_parts.specs.PeriodWith.{chart_blocks}
+use Rattle.chart_parts.proofs.HeaderLemmas.{IsFrame-frame_of}
 use Rattle.chart_parts.proofs.PeriodLemmas.{AreBlocksByPeriod-own, as_many-lengths, own_lengths, periods_are}
 use Rattle.chart_parts.proofs.writing.compressed_parts.Goals as goal
 use Rattle.chart_parts.proofs.writing.compressed_parts.Goals.{After-as_slice-2}
 
-pub periods_of-requires-clause-period : goal.periods_of-requires-clause-period
-unfolding frame_of
-periods_of-requires-clause-period c = rw c.requires.1.frame c.requires.1.is.period.some
+pub periods_of-requires-clause-frame : goal.periods_of-requires-clause-frame
+periods_of-requires-clause-frame c = rw c.requires.1.frame (IsFrame-frame_of c.requires.0 c.requires.1.is)
 
 -- the blocks are the chart's
 blocks_are : (c : After-as_slice-2) (chart : ChartView) → IsCutOf chart c.args.chart
