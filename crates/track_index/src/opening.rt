@@ -266,7 +266,7 @@ fn check_total(frame: &Frame, periods: &[PeriodParts], symbols: u32) -> Result<(
     }
     Err(FormatFault::Flaw(Flaw {
         section: Section::Lengths,
-        period: frame.span.div_ceil(frame.period) - 1,
+        period: frame.timeline().periods() - 1,
         index: 0,
         kind: Kind::Total,
     }))
