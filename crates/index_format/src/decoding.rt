@@ -94,7 +94,7 @@ fn parts_after(alloc: Global, header: Header, bytes: &[u8]) -> Result<Parts, For
     let (objects, rest) = objects_of(alloc, header.objects, bytes)?;
     let (alphabet, rest) = alphabet_of(alloc, header.alphabet, rest)?;
     let (rules, rest) = rules_of(alloc, header.rules, rest)?;
-    let count = header.frame.span.div_ceil(header.frame.period);
+    let count = header.frame.timeline().periods();
     let (periods, rest) = periods_of(alloc, header.objects, count, rest)?;
     let (symbols, rest) = log_of(alloc, header, rest)?;
     if !rest.is_empty() {
