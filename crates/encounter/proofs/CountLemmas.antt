@@ -47,7 +47,7 @@ module _ (test : Span → Span → Bool) where
   count_with-one node nodes others counts = rw counts refl
 
 -- a test that some node of a tree passes is passed in a tree that goes on to it
-any-later : (test : Span → Bool) (own later : BlockTree) → list_any test (tree_nodes later) ≡ true →
+pub any-later : (test : Span → Bool) (own later : BlockTree) → list_any test (tree_nodes later) ≡ true →
     list_any test (tree_nodes (both_trees own later)) ≡ true
 any-later test own later some =
     let stops = ap (list_any test) (map-append span_at own.stops later.stops) in
@@ -59,7 +59,7 @@ any-later test own later some =
     (list_any test (map span_at later.stops)) (list_any test own.rules) (list_any test later.rules) (sym parts ∙ some))
 
 -- the same, where a rule gives way to its parts
-any-opened : (test : Span → Bool) (node : Span) (stops : List Stop) (rules : List Span) →
+pub any-opened : (test : Span → Bool) (node : Span) (stops : List Stop) (rules : List Span) →
     list_any test (map span_at stops ++ rules) ≡ true → list_any test (map span_at stops ++ node ∷ rules) ≡ true
 any-opened test node stops rules some =
     let whole = list_any-append test (map span_at stops) (node ∷ rules) in

@@ -1,8 +1,8 @@
 -- What is left of one block: symbol by symbol, of a rule by its parts, and what its next node tells.
-use Rattle.std.proofs.Common.{◌≡◌, ℕ, zero, suc, ◌+◌, ◌*◌, ◌<◌, ◌≤◌, ℤ, pos, ◌+ℤ◌, ◌-ℤ◌, ◌≤ℤ◌, ◌<ℤ◌, true, List, [], ◌∷◌, ◌++◌, length, map, Option, Some, None, refl, ap, sym, subst, ◌∙◌, arith, All}
-use Rattle.std.specs.Prelude.{get_or, slice_index}
+use Rattle.std.proofs.Common.{◌≡◌, ℕ, zero, suc, ◌+◌, ◌*◌, ◌<◌, ◌≤◌, ℤ, pos, ◌+ℤ◌, ◌-ℤ◌, ◌≤ℤ◌, ◌<ℤ◌, true, false, List, [], ◌∷◌, ◌++◌, length, map, Option, Some, None, refl, ap, sym, subst, ◌∙◌, arith, All}
+use Rattle.std.specs.Prelude.{get_or, nat_le, slice_index}
 use Rattle.std.specs.Option.{is_some, option_map}
-use Rattle.std.proofs.lemmas.Bool.{leb-false, leb-true}
+use Rattle.std.proofs.lemmas.Bool.{le-leb, leb-false, leb-true}
 use Rattle.std.proofs.lemmas.Int.{ints}
 use Rattle.std.proofs.lemmas.List.{append-nil, length-append, length-map, map-append}
 use Rattle.std.proofs.lemmas.List.Elements.{All-cons, All-head, All-nil, All-tail}
@@ -36,7 +36,7 @@ use Rattle.track_types.specs.Boxes.{moved_box}
 use Rattle.log_cursor.specs.Start.{IsHullAsked, IsStart, IsWayOf, start_after}
 use Rattle.log_cursor.proofs.HitLemmas.{IsHullAsked-along, placed-round}
 use Rattle.log_cursor.proofs.WayLemmas.{IsWayOf-first, IsWayOf-parts, IsWayOf-rest, hull_is, start_after-is}
-use Rattle.encounter.specs.Party.{IsStopInside, OpensNode, IsPassed, IsParty, PartyView, Tells, is_in_area, both_trees, remaining, past_of, party_of, tree_after, symbol_tree}
+use Rattle.encounter.specs.Party.{IsStopInside, OpensNode, IsPassed, IsParty, PartyView, Tells, is_in_area, both_trees, remaining, inside_of, past_of, party_of, tree_after, symbol_tree}
 use Rattle.encounter.specs.Span.{Span, BlockTree, span_along, span_at, node_span, spans_in, start_beyond}
 
 module _ (rules : RulesView) where
@@ -58,7 +58,7 @@ module _ (rules : RulesView) where
       ≡ map (node_span rules (start_beyond rules at terminals)) nodes
   spans-after at terminals [] = refl
   spans-after at terminals (node ∷ nodes) =
-      ap (λ start. span_along start (terminal_values rules node.inside)
+      ap (λ start. span_along start (terminal_values rules node.inside) node.inside
       ∷ map (node_span rules at) (map (after terminals) nodes)) (start_beyond-append at terminals node.before)
       ∙ ap (λ spans. node_span rules (start_beyond rules at terminals) node ∷ spans) (spans-after at terminals nodes)
 
@@ -98,19 +98,30 @@ module _ (rules : RulesView) where
 
   module _ (symbol : ℕ) (log : List ℕ) (rule : length rules.alphabet ≤ symbol) (known : symbol < symbols_in rules)
       (left_below : left_of rules symbol < symbol) (right_below : right_of rules symbol < symbol) where
+    -- its node stands for its expansion
+    inside-rule : expansion_of rules symbol ≡ inside_of rules symbol
+    inside-rule = rw (le-leb _ _ rule) refl
+
     pub spans_in-parts : (at : Start) →
         spans_in rules at (symbol ∷ log)
-        ≡ span_along at (values_of rules symbol) ∷ spans_in rules at (left_of rules symbol ∷ right_of rules symbol ∷ log)
+        ≡ span_along at (values_of rules symbol) (inside_of rules symbol)
+        ∷ spans_in rules at (left_of rules symbol ∷ right_of rules symbol ∷ log)
     unfolding spans_in values_of displacement_of
     spans_in-parts at =
         let here : start_beyond rules at [] ≡ at =
         same_start _ _ _ _ _ _ (omega (arith, ints)) (omega (arith, ints)) (omega (arith, ints)) in
         ap (map (node_span rules at)) (nodes_in-parts rules symbol rule known left_below right_below log)
-        ∙ ap (λ start. span_along start (values_of rules symbol)
+        ∙ ap (λ start. span_along start (values_of rules symbol) (expansion_of rules symbol)
         ∷ spans_in rules at (left_of rules symbol ∷ right_of rules symbol ∷ log)) here
+        ∙ ap (λ inside. span_along at (values_of rules symbol) inside
+        ∷ spans_in rules at (left_of rules symbol ∷ right_of rules symbol ∷ log)) inside-rule
 
 -- where what comes next leads, and what it leaves
 module _ (pending : PendingView) (at : Start) where
+  pub grammar-is : (top : Option Entry) → (party_of pending at top).rules ≡ pending.rules
+  grammar-is None = refl
+  grammar-is (Some entry) = refl
+
   pub past-way : (top : Option Entry) → IsParty pending at top → IsWayOf pending.rules (past_of at top) pending.symbols
   past-way None is = is.way
   past-way (Some entry) is =
@@ -166,6 +177,7 @@ module _ (pending : PendingView) (at : Start) where
         let long = ap length taken.symbols in
         record {
           rest = tree_after-cons now.rules next entry.symbol now.symbols ∙ tree ∙ sym (past-later top is);
+          grammar = rules_are ∙ sym (grammar-is top);
           fewer = omega (arith, past-size top is, spans, long);
         }
 
@@ -213,7 +225,9 @@ module _ (pending opened now : PendingView) (at : Start) (entry left : Entry) (i
       record {
         stops = ap (λ (t : BlockTree). t.stops) new ∙ sym (ap (λ (t : BlockTree). t.stops) old ∙ stops);
         rules = ap (λ (t : BlockTree). t.rules) old ∙ split
-            ∙ ap (λ (t : BlockTree). span_along at (values_of pending.rules entry.symbol) ∷ t.rules) (sym new);
+            ∙ ap (λ (t : BlockTree). span_along at (values_of pending.rules entry.symbol)
+            (inside_of pending.rules entry.symbol) ∷ t.rules) (sym new);
+        grammar = rules-are;
         fewer = omega (arith, spans, long, more);
       }
 
@@ -261,7 +275,7 @@ in_round cells (Some area) is =
 abbrev IsLeaf : Start → List ℕ → Type 0
 IsLeaf at values = let past = start_past at values in
     (stops_from (at.instant +ℤ pos 1) (cells_along at.cell values) ≡ stop_at past.instant past.cell ∷ [])
-    × (span_along at values ≡ span_at (stop_at past.instant past.cell))
+    × (span_along at values [] ≡ span_at (stop_at past.instant past.cell))
 
 leaf-one : (at : Start) (value : ℕ) →
     is_some (box_round (present_in (cells_along at.cell (value ∷ [])))) ≡ true → IsLeaf at (value ∷ [])
@@ -278,13 +292,17 @@ leaf-one at (suc code) some =
     )
   where
     span_to : ℤ → ℤ → Cell → Span
-    span_to begin end cell = record { begin = begin; end = end; area = box_round (cell ∷ []) }
+    span_to begin end cell = record { begin = begin; end = end; area = box_round (cell ∷ []); inside = [] }
 
 leaf-is : (at : Start) (values : List ℕ) (value : ℕ) → values ≡ value ∷ [] →
     is_some (box_round (present_in (cells_along at.cell values))) ≡ true → IsLeaf at values
 leaf-is at values value is some =
     subst (IsLeaf at) (sym is)
     (leaf-one at value (subst (λ vs. is_some (box_round (present_in (cells_along at.cell vs))) ≡ true) is some))
+
+-- its node stands for no terminals of a rule
+inside-terminal : (rules : RulesView) (symbol : ℕ) → nat_le (length rules.alphabet) symbol ≡ false → inside_of rules symbol ≡ []
+inside-terminal rules symbol leaf = rw leaf refl
 
 module _ (pending : PendingView) (at : Start) where
   pub tells-of : (top : Option Entry) → IsParty pending at top → Tells (party_of pending at top)
@@ -307,10 +325,12 @@ module _ (pending : PendingView) (at : Start) where
       let long = length-cells_along at.cell values in
       record {
         ordered = omega (arith, ints);
-        inside = stops-inside (span_along at values) (at.instant +ℤ pos 1) cells (omega (arith, ints))
+        inside = stops-inside (span_along at values (inside_of pending.rules entry.symbol)) (at.instant +ℤ pos 1) cells (omega (arith, ints))
             (omega (arith, ints, long)) (in_round (present_in cells) (box_round (present_in cells)) refl);
         later = stops_after-later pending.rules past.instant past pending.symbols (omega (arith, ints));
-        leaf = λ leaf some. leaf-is at values _ (values_of-terminal pending.rules entry.symbol (leb-false _ _ leaf)) some;
+        leaf = λ leaf some.
+            let its = leaf-is at values _ (values_of-terminal pending.rules entry.symbol (leb-false _ _ leaf)) some in
+            (its.0, ap (span_along at values) (inside-terminal pending.rules entry.symbol leaf) ∙ its.1);
         rule = λ opens.
             let rule = leb-true _ _ opens in
             let known = is.top_is.1.known in

@@ -1,9 +1,10 @@
 -- One turn of a walk over two blocks, on what is left of either: lists of stops and of rule nodes.
-use Rattle.std.proofs.Common.{◌≡◌, ℕ, ◌+◌, ◌*◌, ◌≤◌, ℤ, pos, ◌+ℤ◌, ◌-ℤ◌, ◌≤ℤ◌, ◌<ℤ◌, Bool, true, false, List, [], ◌∷◌, ◌++◌, map, Option, Some, None, refl, ap, sym, subst, ◌∙◌, arith, All, inl, inr}
+use Rattle.std.proofs.Common.{◌≡◌, ℕ, ◌+◌, ◌*◌, ◌≤◌, ℤ, pos, ◌+ℤ◌, ◌-ℤ◌, ◌≤ℤ◌, ◌<ℤ◌, Bool, true, false, List, [], ◌∷◌, ◌++◌, map, Option, Some, None, refl, ap, sym, subst, ◌∙◌, arith, All, IsTrue, inl, inr}
 use Rattle.std.specs.Prelude.{get_or, nat_le, unsigned_abs}
 use Rattle.std.specs.Int.{int_max, int_min}
 use Rattle.std.specs.Int.Signed.{le_z}
 use Rattle.std.specs.List.{list_any}
+use Rattle.std.specs.Str.{bytes_eq}
 use Rattle.std.specs.Option.{is_some}
 use Rattle.std.specs.Ordering.{int_eq}
 use Rattle.std.proofs.Math.Nat.{mul-le-mul}
@@ -18,11 +19,14 @@ use Rattle.track_types.proofs.RegionLemmas.{in_box-bounds}
 use Rattle.rule_store.specs.Boxes.{box_round}
 use Rattle.rule_store.specs.Log.{stop_at}
 use Rattle.track_types.specs.Meeting.{pairs_of}
+use Rattle.rule_store.specs.Expansion.{expansion_of}
+use Rattle.log_cursor.specs.Needs.{RulesWithin}
 use Rattle.encounter.specs.Window.{have_met, meeting_among}
-use Rattle.encounter.specs.Span.{Span, BlockTree, are_common, are_near, box_distance, close_count, gap_of, is_close, tree_nodes, span_at}
+use Rattle.encounter.specs.Span.{Span, BlockTree, are_common, are_near, box_distance, close_count, close_rule, gap_of, is_close, tree_nodes, span_at}
 use Rattle.encounter.specs.Party.{IsStopInside, OpensNode, IsPassed, PartyView, Tells, is_in_area, remaining}
-use Rattle.encounter.specs.Turn.{Finds, GoesOn, Parties, parties}
+use Rattle.encounter.specs.Turn.{Finds, GoesOn, Parties, parties, rule_ahead}
 use Rattle.encounter.proofs.PairLemmas.{Apart, first_pair-apart, first_pair-found, first_pair-left, first_pair-right}
+use Rattle.encounter.proofs.CloseLemmas.{close_rule-left, close_rule-left_first, close_rule-left_opened, close_rule-right, close_rule-right_first, close_rule-right_opened}
 use Rattle.encounter.proofs.CountLemmas.{any-rule, any-stop, close_count-left, close_count-left_opened, close_count-right, close_count-right_opened}
 
 -- two boxes are no farther apart than two of their cells
@@ -177,6 +181,13 @@ module _ (from to : ℤ) (reach : ℕ) where
       (gap_of-one left.cell.x right.cell.x) parts.1) in
       and_from _ _ low (and_from _ _ same near)
 
+  -- the rule that was opened, and its parts
+  opened-tree : (old new : PartyView) → OpensNode old new →
+      record { stops = (remaining new).stops; rules = old.top ∷ (remaining new).rules } ≡ remaining old
+  opened-tree old new opened =
+      ap {B = BlockTree} (λ stops. record { stops = stops; rules = old.top ∷ (remaining new).rules }) opened.stops
+      ∙ ap {B = BlockTree} (λ rules. record { stops = (remaining old).stops; rules = rules }) (sym opened.rules)
+
   module _ (left right : PartyView) (tells : Tells left) (told : Tells right) (steps : ℕ) where
     abbrev here : Parties
     here = parties left right steps
@@ -196,6 +207,9 @@ module _ (from to : ℤ) (reach : ℕ) where
             same = first_pair-left (have_met from to reach) left.own.stops left.later.stops (remaining right).stops none
                 ∙ ap (λ (t : BlockTree). meeting_among from to reach t.stops (remaining right).stops) (sym passed.rest);
             reads = omega (arith, fewer, same, cost);
+            within = rw passed.grammar (subst (λ (t : BlockTree). RulesWithin
+                (close_rule left.rules from to reach t (remaining right)) (rule_ahead from to reach left right))
+                (sym passed.rest) (close_rule-left left.rules from to reach left.own left.later (remaining right)));
             fewer = omega (arith, passed.fewer);
           }
 
@@ -229,6 +243,9 @@ module _ (from to : ℤ) (reach : ℕ) where
             same = first_pair-right (have_met from to reach) (remaining left).stops right.own.stops right.later.stops none
                 ∙ ap (λ (t : BlockTree). meeting_among from to reach (remaining left).stops t.stops) (sym passed.rest);
             reads = omega (arith, fewer, same, cost);
+            within = subst (λ (t : BlockTree). RulesWithin (close_rule left.rules from to reach (remaining left) t)
+                (rule_ahead from to reach left right)) (sym passed.rest)
+                (close_rule-right left.rules from to reach (remaining left) right.own right.later);
             fewer = omega (arith, passed.fewer);
           }
 
@@ -268,6 +285,10 @@ module _ (from to : ℤ) (reach : ℕ) where
           record {
             same = ap (λ stops. meeting_among from to reach stops (remaining right).stops) (sym opened.stops);
             reads = omega (arith, fewer, same, cost);
+            within = rw opened.grammar (subst (λ (t : BlockTree). RulesWithin
+                (close_rule left.rules from to reach now (remaining right))
+                (close_rule left.rules from to reach t (remaining right))) (opened-tree left new opened)
+                (close_rule-left_opened left.rules from to reach left.top now.stops now.rules (remaining right)));
             fewer = omega (arith, opened.fewer);
           }
 
@@ -288,8 +309,33 @@ module _ (from to : ℤ) (reach : ℕ) where
           record {
             same = ap (λ stops. meeting_among from to reach (remaining left).stops stops) (sym opened.stops);
             reads = omega (arith, fewer, same, cost);
+            within = subst (λ (t : BlockTree). RulesWithin (close_rule left.rules from to reach (remaining left) now)
+                (close_rule left.rules from to reach (remaining left) t)) (opened-tree right new opened)
+                (close_rule-right_opened left.rules from to reach (remaining left) right.top now.stops now.rules);
             fewer = omega (arith, opened.fewer);
           }
+
+      -- that rule is one of those that are close to a node of the other block
+      pub named-left : left.opens ≡ true → (rule : ℕ) → IsTrue (bytes_eq (expansion_of left.rules rule) left.top.inside) →
+          IsTrue (rule_ahead from to reach left right rule)
+      named-left opens rule is =
+          let first = tells.rule opens in
+          let stops = (remaining left).stops in
+          subst (λ nodes. IsTrue (close_rule left.rules from to reach (record { stops = stops; rules = nodes })
+          (remaining right) rule)) (sym first.is)
+          (close_rule-left_first left.rules from to reach left.top stops first.rest (remaining right)
+          (top-in (is_close from to reach left.top) right told near.1 close) rule is)
+
+      pub named-right : left.rules ≡ right.rules → right.opens ≡ true → (rule : ℕ) →
+          IsTrue (bytes_eq (expansion_of right.rules rule) right.top.inside) →
+          IsTrue (rule_ahead from to reach left right rule)
+      named-right same opens rule is =
+          let first = told.rule opens in
+          let stops = (remaining right).stops in
+          subst (λ nodes. IsTrue (close_rule left.rules from to reach (remaining left)
+          (record { stops = stops; rules = nodes }) rule)) (sym first.is)
+          (close_rule-right_first left.rules from to reach (remaining left) right.top stops first.rest
+          (top-in (λ other. is_close from to reach other right.top) left tells near.0 close) rule (rw same is))
 
     -- the window ends before either next node
     after-begin : (party : PartyView) → Tells party → All (λ stop. party.top.begin <ℤ stop.instant) (remaining party).stops

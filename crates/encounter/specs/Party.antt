@@ -1,5 +1,5 @@
 -- What is left of one block: its next node, and what comes after it.
-use Rattle.std.specs.Prelude.{◌≡◌, ℕ, ◌+◌, ◌*◌, ◌<◌, pos, ◌+ℤ◌, ◌≤ℤ◌, ◌<ℤ◌, Bool, true, false, nat_le, List, [], ◌∷◌, ◌++◌, length, map, All, Option, Some, None, ⊤}
+use Rattle.std.specs.Prelude.{◌≡◌, ℕ, ◌+◌, ◌*◌, ◌<◌, pos, ◌+ℤ◌, ◌≤ℤ◌, ◌<ℤ◌, Bool, true, false, if◌then◌else◌, nat_le, List, [], ◌∷◌, ◌++◌, length, map, All, Option, Some, None, ⊤}
 use Rattle.std.specs.Option.{is_some}
 use Rattle.track_types.specs.Region.{in_box}
 use Rattle.track_types.specs.declared.cell.Cell.{Cell}
@@ -8,7 +8,7 @@ use Rattle.track_types.specs.declared.stop.Stop.{Stop}
 use Rattle.rule_store.specs.View.{RulesView}
 use Rattle.rule_store.specs.Cells.{cells_along}
 use Rattle.rule_store.specs.Entry.{entry_of}
-use Rattle.rule_store.specs.Expansion.{values_of}
+use Rattle.rule_store.specs.Expansion.{expansion_of, values_of}
 use Rattle.rule_store.specs.Flaws.{AreRules}
 use Rattle.rule_store.specs.Log.{stop_at, stops_after, stops_from}
 use Rattle.rule_store.specs.Nodes.{parsed}
@@ -19,14 +19,15 @@ use Rattle.log_cursor.specs.declared.start.Start.{Start}
 use Rattle.encounter.specs.Span.{Span, BlockTree, span_along, span_at, node_span, spans_in}
 
 -- The next node of a block: its span, where it leads, whether it is a rule, its own stops and rule nodes, and what
--- comes after it. Then where the symbols of the log stand, how many of them are still to be read, and a measure of what
--- remains, which each turn makes less.
+-- comes after it. Then the rules, where the symbols of the log stand, how many of them are still to be read, and a
+-- measure of what remains, which each turn makes less.
 pub record PartyView : Type 0 where
   pub top : Span
   pub cell : Cell
   pub opens : Bool
   pub own : BlockTree
   pub later : BlockTree
+  pub rules : RulesView
   pub places : ℕ × ℕ
   pub unread : ℕ
   pub size : ℕ
@@ -53,6 +54,10 @@ symbol_tree rules at symbol = record {
   rules = map (node_span rules at) (parsed rules symbol).nodes;
 }
 
+-- the terminals that a symbol's node stands for: none where it is a terminal itself
+abbrev pub inside_of : RulesView → ℕ → List ℕ
+inside_of rules symbol = if nat_le (length rules.alphabet) symbol then expansion_of rules symbol else []
+
 -- a block whose next node is its anchor, or the symbol of an entry
 abbrev pub party_of : PendingView → Start → Option Entry → PartyView
 party_of pending at None = record {
@@ -61,6 +66,7 @@ party_of pending at None = record {
   opens = false;
   own = record { stops = stop_at at.instant at.cell ∷ []; rules = [] };
   later = tree_after pending.rules at pending.symbols;
+  rules = pending.rules;
   places = pending.places;
   unread = pending.unread;
   size = 2 * length (spans_in pending.rules at pending.symbols) + (length pending.symbols + 1);
@@ -68,11 +74,12 @@ party_of pending at None = record {
 party_of pending at (Some entry) = let values = values_of pending.rules entry.symbol in
     let past = start_past at values in
     record {
-      top = span_along at values;
+      top = span_along at values (inside_of pending.rules entry.symbol);
       cell = past.cell;
       opens = nat_le (length pending.rules.alphabet) entry.symbol;
       own = symbol_tree pending.rules at entry.symbol;
       later = tree_after pending.rules past pending.symbols;
+      rules = pending.rules;
       places = pending.places;
       unread = pending.unread;
       size = 2 * length (spans_in pending.rules at (entry.symbol ∷ pending.symbols))
@@ -129,10 +136,12 @@ pub record Tells (party : PartyView) : Type 0 where
 -- the next node was passed
 pub record IsPassed (old new : PartyView) : Type 0 where
   pub rest : remaining new ≡ old.later
+  pub grammar : new.rules ≡ old.rules
   pub fewer : new.size < old.size
 
 -- the next node was opened
 pub record OpensNode (old new : PartyView) : Type 0 where
   pub stops : (remaining new).stops ≡ (remaining old).stops
   pub rules : (remaining old).rules ≡ old.top ∷ (remaining new).rules
+  pub grammar : new.rules ≡ old.rules
   pub fewer : new.size < old.size

@@ -1,31 +1,36 @@
 -- The nodes of a block's parse trees, each with its instants and its placed box, and which of them may be opened where two
 -- blocks are gone through together.
-use Rattle.std.specs.Prelude.{ℕ, ◌+◌, ◌*◌, ℤ, pos, ◌+ℤ◌, ◌-ℤ◌, unsigned_abs, Bool, false, ◌&&◌, nat_le, List, [], ◌∷◌, ◌++◌, length, map, filter, Option, Some, None}
+use Rattle.std.specs.Prelude.{ℕ, ◌+◌, ◌*◌, ℤ, pos, ◌+ℤ◌, ◌-ℤ◌, unsigned_abs, Bool, false, ◌&&◌, ◌||◌, nat_le, List, [], ◌∷◌, ◌++◌, length, map, filter, Option, Some, None}
 use Rattle.std.specs.Int.{int_max, int_min}
 use Rattle.std.specs.Int.Signed.{le_z}
 use Rattle.std.specs.List.{list_any}
+use Rattle.std.specs.Str.{bytes_eq}
 use Rattle.track_types.specs.declared.cell_box.CellBox.{CellBox}
 use Rattle.track_types.specs.declared.stop.Stop.{Stop}
 use Rattle.rule_store.specs.View.{RulesView}
 use Rattle.rule_store.specs.Boxes.{box_round}
 use Rattle.rule_store.specs.Cells.{cells_along, displacement_of, moved, present_in}
+use Rattle.rule_store.specs.Expansion.{expansion_of}
 use Rattle.rule_store.specs.Log.{block_stops}
 use Rattle.rule_store.specs.Nodes.{RuleNode, nodes_in}
 use Rattle.log_cursor.specs.Touching.{terminal_values}
 use Rattle.log_cursor.specs.declared.start.Start.{Start}
 
--- a node: the instant before its first, its last instant, and the least box round the cells in which the object is present
+-- a node: the instant before its first, its last instant, the least box round the cells in which the object is present, and
+-- the terminals that it stands for where it is a rule's
 pub record Span : Type 0 where
   pub begin : ℤ
   pub end : ℤ
   pub area : Option CellBox
+  pub inside : List ℕ
 
--- the span of values that are walked from a place
-abbrev pub span_along : Start → List ℕ → Span
-span_along start values = record {
+-- the span of values that are walked from a place, by the terminals of a rule
+abbrev pub span_along : Start → List ℕ → List ℕ → Span
+span_along start values inside = record {
   begin = start.instant;
   end = start.instant +ℤ pos (length values);
   area = box_round (present_in (cells_along start.cell values));
+  inside = inside;
 }
 
 -- where a list of terminals leads
@@ -38,7 +43,7 @@ start_beyond rules start terminals = record {
 -- the span of a rule's node
 abbrev pub node_span : RulesView → Start → RuleNode → Span
 node_span rules start node =
-    span_along (start_beyond rules start node.before) (terminal_values rules node.inside)
+    span_along (start_beyond rules start node.before) (terminal_values rules node.inside) node.inside
 
 -- the rule nodes of a log's parse trees
 unfoldable pub spans_in : RulesView → Start → List ℕ → List Span
@@ -50,6 +55,7 @@ span_at stop = record {
   begin = stop.instant -ℤ pos 1;
   end = stop.instant;
   area = box_round (stop.cell ∷ []);
+  inside = [];
 }
 
 -- how far two ranges of numbers are apart
@@ -94,6 +100,17 @@ unfoldable pub close_count : ℤ → ℤ → ℕ → BlockTree → BlockTree →
 close_count from to reach left right =
     count_with (is_close from to reach) left.rules (tree_nodes right)
     + count_with (λ node other. is_close from to reach other node) right.rules (tree_nodes left)
+
+-- a rule stands for the terminals of a node of some that passes a test with some of others
+unfoldable pub rule_with : RulesView → (Span → Span → Bool) → List Span → List Span → ℕ → Bool
+rule_with rules test nodes others rule = list_any (λ node. bytes_eq (expansion_of rules rule) node.inside)
+    (filter (λ node. list_any (test node) others) nodes)
+
+-- a rule is close to a node of the other block: it stands for the terminals of such a node of one of two blocks
+unfoldable pub close_rule : RulesView → ℤ → ℤ → ℕ → BlockTree → BlockTree → ℕ → Bool
+close_rule rules from to reach left right rule =
+    rule_with rules (is_close from to reach) left.rules (tree_nodes right) rule
+    || rule_with rules (λ node other. is_close from to reach other node) right.rules (tree_nodes left) rule
 
 -- the parse trees of a block
 abbrev pub log_tree : RulesView → Start → List ℕ → BlockTree

@@ -2,8 +2,8 @@ ghost use Rattle.std.specs.Prelude.{◌≡◌, ◌+◌, ◌≤◌, option_map, t
 ghost use Rattle.step_count.specs.Reads.{ReadsWithin};
 ghost use Rattle.track_types.specs.Meeting.{meeting_at};
 ghost use Rattle.track_types.specs.declared.limit.TheConstants.{MAX_REACH};
-ghost use Rattle.rule_store.specs.Needs.{log_needs};
-ghost use Rattle.encounter.specs.Turn.{IsTurned, meeting_ahead, parties, reads_ahead};
+ghost use Rattle.log_cursor.specs.Needs.{search_needs};
+ghost use Rattle.encounter.specs.Turn.{IsTurned, meeting_ahead, parties, reads_ahead, rule_ahead};
 
 use crate::block_node::BlockNode;
 use crate::party::Party;
@@ -19,8 +19,8 @@ pub enum Turn {
     Meets(Meeting),
 }
 
-/// The first meeting of two blocks. It reads the symbols of both logs, and rules that are close to a
-/// node of the other block.
+/// The first meeting of two blocks of the same rules. It reads the symbols of both logs, and the
+/// rules that are close to a node of the other block.
 pub fn first_meeting<L: Reads>(
     left: &mut Party<'_>,
     right: &mut Party<'_>,
@@ -28,8 +28,11 @@ pub fn first_meeting<L: Reads>(
     steps: &mut Steps<L>,
 ) -> Option<Meeting>
     requires reach { window.now.reach ≤ MAX_REACH }
-    requires may { ReadsWithin (log_needs left.old.places) L.may }
-    requires also { ReadsWithin (log_needs right.old.places) L.may }
+    requires same { left.old.rules ≡ right.old.rules }
+    requires may { ReadsWithin (search_needs left.old.places (rule_ahead
+        window.now.from window.now.to window.now.reach left.old right.old)) L.may }
+    requires also { ReadsWithin (search_needs right.old.places (rule_ahead
+        window.now.from window.now.to window.now.reach left.old right.old)) L.may }
     ensures value { result ≡ option_map meeting_at (meeting_ahead
         window.now.from window.now.to window.now.reach left.old right.old) }
     ensures cost { steps.new ≤ steps.old + reads_ahead
@@ -53,12 +56,17 @@ fn take_turn<L: Reads>(
     steps: &mut Steps<L>,
 ) -> Turn
     requires reach { window.now.reach ≤ MAX_REACH }
-    requires may { ReadsWithin (log_needs left.old.places) L.may }
-    requires also { ReadsWithin (log_needs right.old.places) L.may }
+    requires same { left.old.rules ≡ right.old.rules }
+    requires may { ReadsWithin (search_needs left.old.places (rule_ahead
+        window.now.from window.now.to window.now.reach left.old right.old)) L.may }
+    requires also { ReadsWithin (search_needs right.old.places (rule_ahead
+        window.now.from window.now.to window.now.reach left.old right.old)) L.may }
     ensures turned { IsTurned window.now.from window.now.to window.now.reach
         (parties left.old right.old steps.old) (parties left.new right.new steps.new) result }
     ensures places { left.new.places ≡ left.old.places }
     ensures others { right.new.places ≡ right.old.places }
+    ensures rules { left.new.rules ≡ left.old.rules }
+    ensures grammar { right.new.rules ≡ right.old.rules }
 {
     let one = left.node();
     let other = right.node();

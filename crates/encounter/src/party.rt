@@ -1,9 +1,12 @@
-ghost use Rattle.std.specs.Prelude.{◌≡◌, ◌+◌, ◌≤◌, [], ◌∷◌, length, true, false, IfOk, IfSome, option_map};
-ghost use Rattle.step_count.specs.Reads.{ReadsWithin};
+ghost use Rattle.std.specs.Prelude.{◌≡◌, ◌+◌, ◌≤◌, [], ◌∷◌, ℕ, length, true, false, IfOk, IfSome, IsTrue, option_map};
+ghost use Rattle.std.specs.Str.{bytes_eq};
+ghost use Rattle.step_count.specs.Reads.{ofRule, ReadsWithin};
 ghost use Rattle.track_types.specs.Near.{IsBoxWithin, IsCellAsked};
 ghost use Rattle.rule_store.specs.Cost.{parts_reads};
+ghost use Rattle.rule_store.specs.Expansion.{expansion_of};
 ghost use Rattle.rule_store.specs.Log.{log_of};
-ghost use Rattle.rule_store.specs.Needs.{log_needs, places_of};
+ghost use Rattle.rule_store.specs.Needs.{places_of};
+ghost use Rattle.log_cursor.specs.Needs.{symbol_needs};
 ghost use Rattle.log_cursor.specs.Start.{IsHullAsked, IsPlaced, IsStart};
 ghost use Rattle.track_types.specs.Boxes.{moved_box};
 ghost use Rattle.encounter.specs.Span.{log_tree};
@@ -48,6 +51,7 @@ impl<'a> Party<'a> {
         requires { IsPlaced view.rules.now start (log_of view) }
         ensures rest { IfOk result (λ party.
             remaining party ≡ log_tree view.entry.rules.now start (log_of view.entry)) }
+        ensures rules { IfOk result (λ party. party.rules ≡ view.entry.rules.now) }
         ensures places { IfOk result (λ party. party.places ≡ places_of view.entry) }
         ensures unread { IfOk result (λ party. party.unread ≡ length (log_of view.entry)) }
     {
@@ -94,10 +98,11 @@ impl<'a> Party<'a> {
     /// Goes to the node after the next one, and answers whether there is one. A symbol of the log is
     /// read.
     pub fn pass<L: Reads>(&mut self, steps: &mut Steps<L>) -> bool
-        requires may { ReadsWithin (log_needs self.old.places) L.may }
+        requires may { ReadsWithin (symbol_needs self.old.places) L.may }
         ensures more { result ≡ true → IsPassed self.old self.new }
         ensures end { result ≡ false → self.old.later.stops ≡ [] }
         ensures places { self.new.places ≡ self.old.places }
+        ensures rules { self.new.rules ≡ self.old.rules }
         ensures cost { steps.new + self.new.unread ≤ steps.old + self.old.unread }
     {
         let next = past(self.at, &self.top);
@@ -111,12 +116,16 @@ impl<'a> Party<'a> {
         true
     }
 
-    /// Opens the next node, which is a rule, by one read.
+    /// Opens the next node, which is a rule, by one read. Contracts see the rule by the terminals for
+    /// which it stands.
     pub fn open<L: Reads>(&mut self, steps: &mut Steps<L>)
         requires rule { self.old.opens ≡ true }
-        requires may { ReadsWithin (log_needs self.old.places) L.may }
+        requires may { ReadsWithin (symbol_needs self.old.places) L.may }
+        requires named { (rule : ℕ) → IsTrue (bytes_eq (expansion_of self.old.rules rule) self.old.top.inside)
+            → IsTrue (L.may (ofRule rule)) }
         ensures opened { OpensNode self.old self.new }
         ensures places { self.new.places ≡ self.old.places }
+        ensures rules { self.new.rules ≡ self.old.rules }
         ensures cost { steps.new + self.new.unread ≤ steps.old + parts_reads + self.old.unread }
     {
         let Some(entry) = self.top else {

@@ -1,4 +1,4 @@
-use Rattle.std.proofs.Common.{◌≡◌, Bool, ◌≤ℤ◌, to_z, of_z, w64, true, false, refl, sym, ◌∙◌, ap, arith}
+use Rattle.std.proofs.Common.{◌≡◌, ℕ, ℤ, Bool, ◌≤ℤ◌, to_z, of_z, w64, true, false, refl, sym, ◌∙◌, ap, arith}
 use Rattle.std.proofs.lemmas.Int.{ints}
 use Rattle.rule_store.specs.Log.{stop_at}
 use Rattle.encounter.specs.Span.{is_close, Span}
@@ -9,21 +9,26 @@ use Rattle.encounter.proofs.pairing.take_turn.Given.{Over}
 use Rattle.encounter.proofs.pairing.take_turn.Goals as goal
 use Rattle.encounter.proofs.pairing.take_turn.Goals.{After-may_meet, else-one-other, then-one-other, then-window-one-via-else-window-one+then-window-other, then-window-one-via-then-window-one}
 
-same_span : (part : BlockNode) (top : Span) → part.begin ≡ top.begin → part.end ≡ top.end → part.area ≡ top.area →
-    span_of_node part ≡ top
-same_span part top begin end area = rw (begin, end, area) refl
+-- closeness does not look at the terminals that a node stands for
+close_same : (from to : ℤ) (reach : ℕ) (one other : Span) (part : BlockNode) → part.begin ≡ one.begin → part.end ≡ one.end →
+    part.area ≡ one.area → is_close from to reach (span_of_node part) other ≡ is_close from to reach one other
+close_same from to reach one other part begin end area = rw (begin, end, area) refl
+
+close_same_too : (from to : ℤ) (reach : ℕ) (one other : Span) (part : BlockNode) → part.begin ≡ other.begin →
+    part.end ≡ other.end → part.area ≡ other.area →
+    is_close from to reach one (span_of_node part) ≡ is_close from to reach one other
+close_same_too from to reach one other part begin end area = rw (begin, end, area) refl
 
 -- what the test for two nodes says of the two blocks
 close_is : (g : Over) (c : After-may_meet g) → c.may_meet.result
     ≡ is_close c.args.window.now.from c.args.window.now.to c.args.window.now.reach c.args.left.now.top c.args.right.now.top
 close_is g c =
+    let window = c.args.window.now in
     c.may_meet.ensures
-    ∙ ap (λ s. is_close c.args.window.now.from c.args.window.now.to c.args.window.now.reach s (span_of_node
-    c.node-other.result)) (same_span c.node-one.result c.args.left.now.top c.node-one.ensures.begin c.node-one.ensures.end
-    c.node-one.ensures.area)
-    ∙ ap (is_close c.args.window.now.from c.args.window.now.to c.args.window.now.reach c.args.left.now.top)
-    (same_span c.node-other.result c.args.right.now.top c.node-other.ensures.begin c.node-other.ensures.end
-    c.node-other.ensures.area)
+    ∙ close_same window.from window.to window.reach c.args.left.now.top (span_of_node c.node-other.result) c.node-one.result
+    c.node-one.ensures.begin c.node-one.ensures.end c.node-one.ensures.area
+    ∙ close_same_too window.from window.to window.reach c.args.left.now.top c.args.right.now.top c.node-other.result
+    c.node-other.ensures.begin c.node-other.ensures.end c.node-other.ensures.area
 
 neither : (one other : Bool) → (one ≡ true → other ≡ true) → other ≡ false → one ≡ false
 neither true true more less = less
@@ -64,6 +69,8 @@ returns-then-more g c =
                 w.pass-more.ensures.cost);
             places = rw w.left-is w.pass-more.ensures.places;
             others = rw w.right-is refl;
+            rules = rw w.left-is w.pass-more.ensures.rules;
+            grammar = rw w.right-is refl;
           }
       | else-one-other w ↦
           let sooner : c.args.right.now.top.end ≤ℤ c.args.left.now.top.end =
@@ -75,6 +82,8 @@ returns-then-more g c =
                 w.pass-more-else-one-other.ensures.cost);
             places = rw w.left-is refl;
             others = rw w.right-is w.pass-more-else-one-other.ensures.places;
+            rules = rw w.left-is refl;
+            grammar = rw w.right-is w.pass-more-else-one-other.ensures.rules;
           }
     ]
 
@@ -93,6 +102,8 @@ returns-else-more g c =
                 w.pass-more.ensures.cost);
             places = rw w.left-is w.pass-more.ensures.places;
             others = rw w.right-is refl;
+            rules = rw w.left-is w.pass-more.ensures.rules;
+            grammar = rw w.right-is refl;
           }
       | else-one-other w ↦
           let sooner : c.args.right.now.top.end ≤ℤ c.args.left.now.top.end =
@@ -104,6 +115,8 @@ returns-else-more g c =
                 w.pass-more-else-one-other.ensures.cost);
             places = rw w.left-is refl;
             others = rw w.right-is w.pass-more-else-one-other.ensures.places;
+            rules = rw w.left-is refl;
+            grammar = rw w.right-is w.pass-more-else-one-other.ensures.rules;
           }
     ]
 
