@@ -1,5 +1,5 @@
 -- Which rules are close to a node of the other block, where nodes are taken off.
-use Rattle.std.proofs.Common.{◌≡◌, ℕ, ℤ, Bool, true, false, ◌||◌, IsTrue, List, [], ◌∷◌, ◌++◌, filter, map, refl, ap, sym, ◌∙◌, inl, inr}
+use Rattle.std.proofs.Common.{◌≡◌, ℕ, ℤ, Bool, true, false, ◌||◌, IsTrue, List, [], ◌∷◌, ◌++◌, filter, map, refl, ap, ◌∙◌, inl, inr}
 use Rattle.std.specs.List.{list_any}
 use Rattle.std.specs.Str.{bytes_eq}
 use Rattle.std.proofs.lemmas.Bool.{cases_Bool, or_left, or_right}

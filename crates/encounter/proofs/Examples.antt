@@ -1,5 +1,5 @@
 -- The nodes of small blocks that are close, and what a period costs.
-use Rattle.std.proofs.Common.{◌≡◌, ℕ, ◌+◌, ◌*◌, pos, [], ◌∷◌, refl, arith}
+use Rattle.std.proofs.Common.{◌≡◌, ℕ, ◌*◌, pos, true, false, [], ◌∷◌, refl}
 use Rattle.rule_store.specs.View.{RulesView, rules_with}
 use Rattle.rule_store.specs.Log.{block_stops, log_values, stops_after, stops_from}
 use Rattle.rule_store.specs.Boxes.{box_round}
@@ -10,7 +10,7 @@ use Rattle.spiral_code.specs.Spiral.{move_of}
 use Rattle.rule_store.specs.Cells.{cell_with, cells_along, displacement_of}
 use Rattle.log_cursor.specs.Start.{start_at}
 use Rattle.snapshots.specs.Cost.{lookup_reads}
-use Rattle.encounter.specs.Span.{BlockTree, close_count, count_with, spans_in, log_tree}
+use Rattle.encounter.specs.Span.{BlockTree, close_count, close_rule, count_with, rule_with, spans_in, log_tree}
 
 -- two terminals, standing still and one to the right; rule 2 is twice to the right
 abbrev grammar : RulesView
@@ -54,6 +54,33 @@ by_itself : close_count (pos 0) (pos 20) 0 moving moving ≡ 2
 unfolding close_count count_with spans_in nodes_in parsed table_of_rules block_stops stops_after log_values values_of expansion_of
     cells_along displacement_of stops_from move_of box_round
 by_itself = refl
+
+-- rule 2 is twice to the right, rule 3 stands still twice; a block with its anchor at instant 10 in (5, 5), and both after it
+abbrev both : RulesView
+both = rules_with (1 ∷ 2 ∷ []) ((1, 1) ∷ (0, 0) ∷ []) (2 ∷ 3 ∷ []) 4 9
+
+abbrev going : BlockTree
+going = log_tree both (start_at (pos 10) (cell_with (pos 5) (pos 5))) (2 ∷ 3 ∷ [])
+
+-- another's anchor is where the first leads, so that rule 2 is close to it by its last instant, and rule 3 is too late
+abbrev waiting : BlockTree
+waiting = log_tree both (start_at (pos 12) (cell_with (pos 7) (pos 5))) []
+
+first_is_close : close_rule both (pos 0) (pos 20) 0 going waiting 2 ≡ true
+unfolding close_rule rule_with spans_in nodes_in parsed table_of_rules block_stops stops_after log_values values_of expansion_of
+    cells_along displacement_of stops_from move_of box_round
+first_is_close = refl
+
+second_is_not : close_rule both (pos 0) (pos 20) 0 going waiting 3 ≡ false
+unfolding close_rule rule_with spans_in nodes_in parsed table_of_rules block_stops stops_after log_values values_of expansion_of
+    cells_along displacement_of stops_from move_of box_round
+second_is_not = refl
+
+-- with the blocks the other way round it is the same rule
+first_is_close_too : close_rule both (pos 0) (pos 20) 0 waiting going 2 ≡ true
+unfolding close_rule rule_with spans_in nodes_in parsed table_of_rules block_stops stops_after log_values values_of expansion_of
+    cells_along displacement_of stops_from move_of box_round
+first_is_close_too = refl
 
 -- an absence, standing still and one to the right; rule 3 is an absence, then standing still
 abbrev absences : RulesView

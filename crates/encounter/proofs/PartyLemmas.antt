@@ -16,7 +16,6 @@ use Rattle.rule_store.specs.Boxes.{box_round}
 use Rattle.rule_store.specs.Cells.{cells_along, displacement_of, moved, present_in}
 use Rattle.rule_store.specs.Expansion.{expansion_of, values_of}
 use Rattle.rule_store.specs.Flaws.{AreRules, left_of, right_of}
-use Rattle.rule_store.specs.Entry.{entry_of}
 use Rattle.rule_store.specs.Log.{log_values, stop_at, stops_after, stops_from}
 use Rattle.rule_store.specs.Nodes.{RuleNode, after, nodes_in, parsed}
 use Rattle.rule_store.proofs.BoxLemmas.{box_round-is, box_round-none}
@@ -31,7 +30,7 @@ use Rattle.log_cursor.proofs.RuleLemmas.{nodes_in-parts, parts-below, stops_afte
 use Rattle.log_cursor.proofs.TouchLemmas.{moved-displaced}
 use Rattle.log_cursor.proofs.WayLemmas.{box_round-bounded, same_start}
 use Rattle.rule_store.specs.declared.entry.Entry.{Entry}
-use Rattle.log_cursor.specs.Pending.{IsRoomy, IsTaken, PendingView}
+use Rattle.log_cursor.specs.Pending.{IsTaken, PendingView}
 use Rattle.track_types.specs.Boxes.{moved_box}
 use Rattle.log_cursor.specs.Start.{IsHullAsked, IsStart, IsWayOf, start_after}
 use Rattle.log_cursor.proofs.HitLemmas.{IsHullAsked-along, placed-round}
@@ -325,8 +324,8 @@ module _ (pending : PendingView) (at : Start) where
       let long = length-cells_along at.cell values in
       record {
         ordered = omega (arith, ints);
-        inside = stops-inside (span_along at values (inside_of pending.rules entry.symbol)) (at.instant +ℤ pos 1) cells (omega (arith, ints))
-            (omega (arith, ints, long)) (in_round (present_in cells) (box_round (present_in cells)) refl);
+        inside = stops-inside (span_along at values (inside_of pending.rules entry.symbol)) (at.instant +ℤ pos 1) cells
+            (omega (arith, ints)) (omega (arith, ints, long)) (in_round (present_in cells) (box_round (present_in cells)) refl);
         later = stops_after-later pending.rules past.instant past pending.symbols (omega (arith, ints));
         leaf = λ leaf some.
             let its = leaf-is at values _ (values_of-terminal pending.rules entry.symbol (leb-false _ _ leaf)) some in

@@ -7,5 +7,6 @@ pub mod Party
 pub mod NodeSpan
 pub mod Turn
 pub mod MeetCost
+pub mod Needs
 pub mod IndexCost
 pub mod Seeking

@@ -1,15 +1,11 @@
 -- Meetings of two objects in the periods from one to before another.
-use Rattle.std.specs.Prelude.{◌≡◌, ℕ, ◌+◌, ◌-◌, ◌<◌, ◌≤◌, ℤ, ◌≤ℤ◌, Bool, Option, Some}
+use Rattle.std.specs.Prelude.{◌≡◌, ℕ, ◌+◌, ◌-◌, ◌<◌, ◌≤◌, ℤ, ◌≤ℤ◌, Option}
 use Rattle.std.specs.List.{range_with_len, sum_by}
-use Rattle.step_count.specs.Reads.{Read}
 use Rattle.track_types.specs.Meeting.{first_together}
 use Rattle.track_types.specs.declared.parts.Parts.{Parts}
 use Rattle.track_types.specs.declared.stop.Stop.{Stop}
-use Rattle.snapshots.specs.Needs.{needs_in}
-use Rattle.object_track.specs.Needs.{is_of_pair}
 use Rattle.snapshots.specs.Parts.{first_in}
 use Rattle.object_track.specs.Between.{stops_between}
-use Rattle.track_index.specs.Path.{is_left}
 use Rattle.encounter.specs.MeetCost.{period_meet_cost}
 
 -- the first meeting in some periods, of two objects by their places
@@ -21,11 +17,6 @@ meeting_between parts left right from to reach next behind =
 unfoldable pub meet_cost_between : Parts → ℕ → ℕ → ℤ → ℤ → ℕ → ℕ → ℕ → ℕ
 meet_cost_between parts left right from to reach next behind =
     sum_by (period_meet_cost parts left right from to reach) (range_with_len next (behind - next))
-
--- the reads of some periods, and of the logs of two objects there, by their places
-abbrev pub pair_needs : Parts → ℕ → ℕ → ℕ → ℕ → Read → Bool
-pair_needs parts left right next behind =
-    needs_in parts.frame (is_left next behind) (is_of_pair parts (Some left) (Some right))
 
 -- What a search that has found nothing has done: the same first meeting is ahead, for reads from the budget. What was read
 -- are the periods so far.

@@ -8,9 +8,9 @@ use track_types::{Answerer, Cell, Facts, Hit, Memory, Near, Region, Sighting};
 // Both hand each question but a meeting on to the answerer under them.
 
 impl<'a> Answerer for IndexMeets<'a> {
-    ghost use Rattle.encounter.specs.IndexCost.{meets_cost};
+    ghost use Rattle.encounter.specs.IndexCost.{meets_cost, meets_needs};
     ghost use Rattle.snapshots.specs.Parts.{chart_in};
-    ghost use Rattle.track_index.specs.Cost.{needs_of, path_cost_until};
+    ghost use Rattle.track_index.specs.Cost.{path_cost_until};
     ghost use Rattle.track_index.specs.Facts.{facts_of};
 
     type Walk = PathWalk<'a>;
@@ -21,7 +21,7 @@ impl<'a> Answerer for IndexMeets<'a> {
 
     ghost cost = { λ m. meets_cost m.view.index.now };
 
-    ghost needs = { λ m. needs_of m.view.index.now };
+    ghost needs = { λ m. meets_needs m.view.index.now };
 
     ghost path_cost_until = { λ m. path_cost_until m.view.index.now };
 

@@ -4,9 +4,9 @@ ghost use Rattle.track_types.specs.Meeting.{meeting_of};
 ghost use Rattle.track_types.specs.Near.{IsAsked};
 ghost use Rattle.track_types.specs.declared.limit.TheConstants.{MAX_REACH};
 ghost use Rattle.track_types.specs.declared.meeting.Meeting.{Meeting as MeetingView};
-ghost use Rattle.object_track.specs.Needs.{pair_needs_between};
 ghost use Rattle.snapshots.specs.Parts.{chart_in};
 ghost use Rattle.encounter.specs.MeetCost.{meet_cost, meet_cost_until};
+ghost use Rattle.encounter.specs.Needs.{meet_needs};
 
 use crate::search::meet;
 use crate::window::Window;
@@ -45,7 +45,7 @@ impl<'a> Meets for IndexMeets<'a> {
         requires from { IsAsked from }
         requires to { IsAsked to }
         requires reach { reach ≤ MAX_REACH }
-        requires may { ReadsWithin (pair_needs_between self.view.index.now left right from to) L.may }
+        requires may { ReadsWithin (meet_needs self.view.index.now left right from to reach) L.may }
         ensures ok { IfOk result (λ found. found
             ≡ meeting_of (chart_in self.entry.view.index.now).rows left right from to reach) }
         ensures cost { steps.new ≤ steps.old + meet_cost self.entry.view.index.now left right from to reach }

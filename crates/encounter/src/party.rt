@@ -1,4 +1,5 @@
-ghost use Rattle.std.specs.Prelude.{◌≡◌, ◌+◌, ◌≤◌, [], ◌∷◌, ℕ, length, true, false, IfOk, IfSome, IsTrue, option_map};
+ghost use Rattle.std.specs.Prelude.{◌≡◌, ℕ, ◌+◌, ◌≤◌, [], ◌∷◌, length, true, false, option_map};
+ghost use Rattle.std.specs.Prelude.{IfOk, IfSome, IsTrue};
 ghost use Rattle.std.specs.Str.{bytes_eq};
 ghost use Rattle.step_count.specs.Reads.{ofRule, ReadsWithin};
 ghost use Rattle.track_types.specs.Near.{IsBoxWithin, IsCellAsked};
@@ -116,13 +117,13 @@ impl<'a> Party<'a> {
         true
     }
 
-    /// Opens the next node, which is a rule, by one read. Contracts see the rule by the terminals for
-    /// which it stands.
+    /// Opens the next node, which is a rule, by one read. Contracts name the rule by the terminals
+    /// for which it stands.
     pub fn open<L: Reads>(&mut self, steps: &mut Steps<L>)
         requires rule { self.old.opens ≡ true }
         requires may { ReadsWithin (symbol_needs self.old.places) L.may }
-        requires named { (rule : ℕ) → IsTrue (bytes_eq (expansion_of self.old.rules rule) self.old.top.inside)
-            → IsTrue (L.may (ofRule rule)) }
+        requires named { (rule : ℕ) → IsTrue (bytes_eq (expansion_of self.old.rules rule)
+            self.old.top.inside) → IsTrue (L.may (ofRule rule)) }
         ensures opened { OpensNode self.old self.new }
         ensures places { self.new.places ≡ self.old.places }
         ensures rules { self.new.rules ≡ self.old.rules }

@@ -4,13 +4,14 @@ ghost use Rattle.track_types.specs.Frame.{periods_of};
 ghost use Rattle.track_types.specs.Meeting.{meeting_at, meeting_of};
 ghost use Rattle.track_types.specs.declared.limit.TheConstants.{MAX_REACH};
 ghost use Rattle.track_types.specs.declared.meeting.Meeting.{Meeting as MeetingView};
-ghost use Rattle.rule_store.specs.Needs.{log_needs};
-ghost use Rattle.object_track.specs.Needs.{pair_needs_between};
+ghost use Rattle.log_cursor.specs.Needs.{search_needs};
 ghost use Rattle.snapshots.specs.Needs.{block_places};
 ghost use Rattle.snapshots.specs.Parts.{chart_in, snapshot_in, stops_in};
 ghost use Rattle.snapshots.specs.View.{block_of};
+ghost use Rattle.track_index.specs.Path.{is_left};
 ghost use Rattle.encounter.specs.MeetCost.{meet_cost, meet_cost_until, period_meet_cost};
-ghost use Rattle.encounter.specs.Seeking.{EndsAt, meet_cost_between, meeting_between, pair_needs};
+ghost use Rattle.encounter.specs.Needs.{meet_needs, pair_needs, period_rule};
+ghost use Rattle.encounter.specs.Seeking.{EndsAt, meet_cost_between, meeting_between};
 ghost use Rattle.encounter.specs.Window.{meeting_among};
 
 use crate::pairing::first_meeting;
@@ -38,8 +39,8 @@ pub fn meet<L: Reads>(
     steps: &mut Steps<L>,
 ) -> Result<Option<Meeting>, Memory>
     requires reach { window.now.reach ≤ MAX_REACH }
-    requires may { ReadsWithin (pair_needs_between stores.now left right window.now.from window.now.to)
-        L.may }
+    requires may { ReadsWithin (meet_needs stores.now left right
+        window.now.from window.now.to window.now.reach) L.may }
     ensures ok { IfOk result (λ found. found ≡ meeting_of (chart_in stores.now).rows left right
         window.now.from window.now.to window.now.reach) }
     ensures cost { steps.new ≤ steps.old + meet_cost stores.now left right
@@ -83,8 +84,8 @@ fn meet_in_periods<L: Reads>(
     requires left { places.left < length stores.now.objects }
     requires right { places.right < length stores.now.objects }
     requires periods { periods.end ≤ periods_of stores.now.frame }
-    requires may { ReadsWithin (pair_needs stores.now places.left places.right periods.next periods.end)
-        L.may }
+    requires may { ReadsWithin (pair_needs stores.now places.left places.right
+        window.now.from window.now.to window.now.reach (is_left periods.next periods.end)) L.may }
     ensures ok { IfOk result (λ found. found ≡ option_map meeting_at (meeting_between stores.now
         places.left places.right window.now.from window.now.to window.now.reach
         periods.next periods.end)) }
@@ -119,10 +120,14 @@ fn meet_in_period<L: Reads>(
     requires right { places.right < length stores.now.objects }
     requires period { period < periods_of stores.now.frame }
     requires may { IsTrue (L.may (ofPeriod period)) }
-    requires log { ReadsWithin (log_needs (block_places
-        (block_of (snapshot_in stores.now period) places.left))) L.may }
-    requires also { ReadsWithin (log_needs (block_places
-        (block_of (snapshot_in stores.now period) places.right))) L.may }
+    requires log { ReadsWithin (search_needs
+        (block_places (block_of (snapshot_in stores.now period) places.left))
+        (period_rule stores.now places.left places.right
+        window.now.from window.now.to window.now.reach period)) L.may }
+    requires also { ReadsWithin (search_needs
+        (block_places (block_of (snapshot_in stores.now period) places.right))
+        (period_rule stores.now places.left places.right
+        window.now.from window.now.to window.now.reach period)) L.may }
     ensures ok { IfOk result (λ found. found ≡ option_map meeting_at (meeting_among
         window.now.from window.now.to window.now.reach
         (stops_in stores.now places.left period) (stops_in stores.now places.right period))) }

@@ -1,39 +1,60 @@
-use Rattle.std.proofs.Common.{◌≡◌, ℕ, ℤ, Bool, ◌≤ℤ◌, to_z, of_z, w64, true, false, refl, sym, ◌∙◌, ap, arith}
+use Rattle.std.proofs.Common.{◌≡◌, ℕ, ℤ, Bool, ◌≤ℤ◌, to_z, of_z, w64, true, false, refl, sym, ◌∙◌, arith}
 use Rattle.std.proofs.lemmas.Int.{ints}
+use Rattle.step_count.specs.Reads.{Read, ReadsWithin, ofRule}
 use Rattle.rule_store.specs.Log.{stop_at}
+use Rattle.log_cursor.specs.Needs.{search_needs, symbol_needs}
+use Rattle.log_cursor.proofs.NeedsLemmas.{search-same}
 use Rattle.encounter.specs.Span.{is_close, Span}
 use Rattle.encounter.specs.NodeSpan.{span_of_node}
 use Rattle.encounter.specs.declared.block_node.BlockNode.{BlockNode}
-use Rattle.encounter.proofs.TurnLemmas.{ended-left, ended-right, found-both, opened-left, opened-right, over-left, over-right, passed-left, passed-right}
+use Rattle.encounter.proofs.TurnLemmas.{ended-left, ended-right, found-both, named-left, named-right, opened-left, opened-right, over-left, over-right, passed-left, passed-right}
 use Rattle.encounter.proofs.pairing.take_turn.Given.{Over}
 use Rattle.encounter.proofs.pairing.take_turn.Goals as goal
 use Rattle.encounter.proofs.pairing.take_turn.Goals.{After-may_meet, else-one-other, then-one-other, then-window-one-via-else-window-one+then-window-other, then-window-one-via-then-window-one}
 
 -- closeness does not look at the terminals that a node stands for
-close_same : (from to : ℤ) (reach : ℕ) (one other : Span) (part : BlockNode) → part.begin ≡ one.begin → part.end ≡ one.end →
-    part.area ≡ one.area → is_close from to reach (span_of_node part) other ≡ is_close from to reach one other
-close_same from to reach one other part begin end area = rw (begin, end, area) refl
-
-close_same_too : (from to : ℤ) (reach : ℕ) (one other : Span) (part : BlockNode) → part.begin ≡ other.begin →
-    part.end ≡ other.end → part.area ≡ other.area →
-    is_close from to reach one (span_of_node part) ≡ is_close from to reach one other
-close_same_too from to reach one other part begin end area = rw (begin, end, area) refl
+close_same : (from to : ℤ) (reach : ℕ) (one other : Span) (part next : BlockNode) → part.begin ≡ one.begin →
+    part.end ≡ one.end → part.area ≡ one.area → next.begin ≡ other.begin → next.end ≡ other.end → next.area ≡ other.area →
+    is_close from to reach (span_of_node part) (span_of_node next) ≡ is_close from to reach one other
+close_same from to reach one other part next begin end area first last box = rw (begin, end, area, first, last, box) refl
 
 -- what the test for two nodes says of the two blocks
 close_is : (g : Over) (c : After-may_meet g) → c.may_meet.result
     ≡ is_close c.args.window.now.from c.args.window.now.to c.args.window.now.reach c.args.left.now.top c.args.right.now.top
 close_is g c =
-    let window = c.args.window.now in
     c.may_meet.ensures
-    ∙ close_same window.from window.to window.reach c.args.left.now.top (span_of_node c.node-other.result) c.node-one.result
-    c.node-one.ensures.begin c.node-one.ensures.end c.node-one.ensures.area
-    ∙ close_same_too window.from window.to window.reach c.args.left.now.top c.args.right.now.top c.node-other.result
-    c.node-other.ensures.begin c.node-other.ensures.end c.node-other.ensures.area
+    ∙ close_same c.args.window.now.from c.args.window.now.to c.args.window.now.reach c.args.left.now.top
+    c.args.right.now.top c.node-one.result c.node-other.result c.node-one.ensures.begin c.node-one.ensures.end
+    c.node-one.ensures.area c.node-other.ensures.begin c.node-other.ensures.end c.node-other.ensures.area
 
 neither : (one other : Bool) → (one ≡ true → other ≡ true) → other ≡ false → one ≡ false
 neither true true more less = less
 neither true false more less = sym (more refl)
 neither false other more less = refl
+
+-- the symbols of a log are among what a search may read of it
+symbols-of : (may : Read → Bool) (places : ℕ × ℕ) (rules : ℕ → Bool) → ReadsWithin (search_needs places rules) may →
+    ReadsWithin (symbol_needs places) may
+symbols-of may places rules within read needed =
+    within read (search-same places places (λ rule. false) rules refl (λ rule none. absurd (cc none)) read needed)
+
+pub pass-more-requires : goal.pass-more-requires
+pass-more-requires g c = record { may = symbols-of g.L.Reads.may c.args.left.now.places _ c.requires.may }
+
+pub pass-more-requires-else-one-other : goal.pass-more-requires-else-one-other
+pass-more-requires-else-one-other g c = record { may = symbols-of g.L.Reads.may c.args.right.now.places _ c.requires.also }
+
+pub open-requires-clause-named : goal.open-requires-clause-named
+open-requires-clause-named g c rule is =
+    let close = sym (close_is g (goal.at.open-requires-clause-named g c).After-may_meet) ∙ c.if-not-may_meet.false in
+    c.requires.may (ofRule rule) (named-left _ _ _ _ _ c.node-one.ensures.tells c.node-other.ensures.tells c.args.steps.now close
+    (sym c.node-one.ensures.opens ∙ c.opens_first.ensures.yes c.if-opens_first.true) rule is)
+
+pub open-requires-then-other-clause-named : goal.open-requires-then-other-clause-named
+open-requires-then-other-clause-named g c rule is =
+    let close = sym (close_is g (goal.at.open-requires-then-other-clause-named g c).After-may_meet) ∙ c.if-not-may_meet.false in
+    c.requires.may (ofRule rule) (named-right _ _ _ _ _ c.node-one.ensures.tells c.node-other.ensures.tells c.args.steps.now close
+    c.requires.same (sym c.node-other.ensures.opens ∙ c.if-other.true) rule is)
 
 pub open-requires-clause-rule : goal.open-requires-clause-rule
 open-requires-clause-rule g c = sym c.node-one.ensures.opens ∙ c.opens_first.ensures.yes c.if-opens_first.true

@@ -43,7 +43,7 @@ are_met g c =
 pub meet_in_periods-requires-clause-may : goal.meet_in_periods-requires-clause-may
 meet_in_periods-requires-clause-may g c = λ read needed.
     c.requires.may read (pair-met c.args.stores.now c.args.left c.args.right c.in-Some.one c.in-Some-index_of.other
-    c.args.window.now.from c.args.window.now.to _ _ c.in-Some.ensures.value c.in-Some-index_of.ensures.value
+    c.args.window.now.from c.args.window.now.to c.args.window.now.reach _ _ c.in-Some.ensures.value c.in-Some-index_of.ensures.value
     (are_met g (goal.at.meet_in_periods-requires-clause-may g c).After-met-periods) read needed)
 
 pub returns-clause-ok : goal.returns-clause-ok

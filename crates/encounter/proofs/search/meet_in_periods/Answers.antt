@@ -4,6 +4,7 @@ use Rattle.track_types.specs.Meeting.{meeting_at}
 use Rattle.step_count.specs.Reads.{ofPeriod}
 use Rattle.track_types.specs.Frame.{periods_of}
 use Rattle.encounter.proofs.NeedsLemmas.{pair-logs}
+use Rattle.track_index.specs.Path.{is_left}
 use Rattle.track_index.proofs.NeedsLemmas.{is_left-within}
 use Rattle.encounter.proofs.SeekingLemmas.{seeking-cost, seeking-ends, seeking-found, seeking-next, seeking-none}
 use Rattle.encounter.proofs.search.meet_in_periods.Goals as goal
@@ -49,8 +50,9 @@ meet_in_period-requires g c =
     let period = c.loop-period.period in
     let left = is_left-within periods.next periods.end period c.loop-period.invariant.1 (omega (arith, c.loop-period-test.true)) in
     let known : period < periods_of c.args.stores.now.frame = omega (arith, c.loop-period-test.true, c.requires.periods) in
-    let logs = pair-logs g.L.Reads.may c.args.stores.now places.left places.right periods.next periods.end period c.requires.may
-    known left in
+    let window = c.args.window.now in
+    let logs = pair-logs g.L.Reads.may c.args.stores.now places.left places.right window.from window.to window.reach
+    (is_left periods.next periods.end) c.requires.may period known left in
     record {
       reach = c.requires.reach;
       left = c.requires.left;
