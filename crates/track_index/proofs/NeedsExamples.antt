@@ -68,9 +68,8 @@ path : needed (Path 7 (pos 1) (pos 2)) ≡ true ∷ true ∷ true ∷ true ∷ f
 unfolding start_in rank_of ones_of
 path = refl
 
--- a meeting needs those of both objects
-meeting : needed (Meet 7 9 (pos 0) (pos 1) 3) ≡ true ∷ false ∷ true ∷ true ∷ true ∷ false ∷ false ∷ []
-unfolding start_in rank_of ones_of
+-- a meeting needs nothing, since an index alone finds none
+meeting : needed (Meet 7 9 (pos 0) (pos 1) 3) ≡ false ∷ false ∷ false ∷ false ∷ false ∷ false ∷ false ∷ []
 meeting = refl
 
 -- Of a rule that moves an object from (0, 0) to (2, 0), and then from there to (4, 0), the questions need what touches their region
