@@ -48,9 +48,3 @@ needs_between parts from to = needs_in parts.frame (is_met parts.frame from to) 
 abbrev pub object_needs_between : Parts → ℕ → ℤ → ℤ → Read → Bool
 object_needs_between parts object from to =
     needs_in parts.frame (is_met parts.frame from to) (is_of_block parts (index_in parts.objects object))
-
--- the reads of the periods that a window meets, and of the logs of two objects there
-abbrev pub pair_needs_between : Parts → ℕ → ℕ → ℤ → ℤ → Read → Bool
-pair_needs_between parts left right from to =
-    needs_in parts.frame (is_met parts.frame from to)
-    (is_of_pair parts (index_in parts.objects left) (index_in parts.objects right))
