@@ -24,7 +24,7 @@ use Rattle.rule_store.proofs.ExpansionLemmas.{length-values_of, values_of-termin
 use Rattle.rule_store.proofs.LogLemmas.{stops_after-cons}
 use Rattle.rule_store.proofs.NodeLemmas.{parsed-terminals}
 use Rattle.log_cursor.specs.Start.{start_at, start_past}
-use Rattle.log_cursor.specs.Touching.{terminal_values}
+use Rattle.log_cursor.specs.Walk.{terminal_values}
 use Rattle.log_cursor.specs.declared.start.Start.{Start}
 use Rattle.log_cursor.proofs.RuleLemmas.{nodes_in-parts, parts-below, stops_after-parts}
 use Rattle.log_cursor.proofs.TouchLemmas.{moved-displaced}

@@ -13,7 +13,7 @@ use Rattle.rule_store.specs.Cells.{cells_along, displacement_of, moved, present_
 use Rattle.rule_store.specs.Expansion.{expansion_of}
 use Rattle.rule_store.specs.Log.{block_stops}
 use Rattle.rule_store.specs.Nodes.{RuleNode, nodes_in}
-use Rattle.log_cursor.specs.Touching.{terminal_values}
+use Rattle.log_cursor.specs.Walk.{terminal_values}
 use Rattle.log_cursor.specs.declared.start.Start.{Start}
 
 -- a node: the instant before its first, its last instant, the least box round the cells in which the object is present, and
