@@ -19,8 +19,10 @@ use Rattle.rule_store.specs.Cells.{cells_along, displacement_of}
 use Rattle.rule_store.specs.Expansion.{expansion_of}
 use Rattle.rule_store.specs.Nodes.{nodes_in, parsed}
 use Rattle.log_cursor.specs.Touching.{holding_rule, touching_rule}
+use Rattle.log_cursor.specs.Turn.{opening_rule}
 use Rattle.snapshots.specs.Parts.{start_in}
 use Rattle.snapshots.specs.View.{all_blocks}
+use Rattle.object_track.specs.Needs.{track_rule}
 use Rattle.slice_search.specs.Needs.{period_rule}
 use Rattle.nearest_search.specs.Needs.{near_rule}
 use Rattle.track_index.specs.Cost.{needs_of}
@@ -64,16 +66,16 @@ unfolding start_in period_rule all_blocks touching_rule nodes_in parsed table_of
 slice = refl
 
 -- a path needs its object's logs in the periods that its window meets
-path : needed (Path 7 (pos 1) (pos 2)) ≡ true ∷ true ∷ true ∷ true ∷ false ∷ true ∷ false ∷ []
-unfolding start_in rank_of ones_of
+path : needed (Path 7 (pos 1) (pos 2)) ≡ true ∷ true ∷ false ∷ true ∷ false ∷ true ∷ false ∷ []
+unfolding start_in track_rule opening_rule nodes_in parsed table_of_rules rank_of ones_of
 path = refl
 
 -- a meeting needs nothing, since an index alone finds none
 meeting : needed (Meet 7 9 (pos 0) (pos 1) 3) ≡ false ∷ false ∷ false ∷ false ∷ false ∷ false ∷ false ∷ []
 meeting = refl
 
--- Of a rule that moves an object from (0, 0) to (2, 0), and then from there to (4, 0), the questions need what touches their region
--- or holds their instant.
+-- Of a rule that moves an object from (0, 0) to (2, 0), and then from there to (4, 0), the questions need what touches their region,
+-- holds their instant or meets their window.
 rule : map (λ question. needs_of repeated question (ofRule 1)) (
     -- a slice that has no cell of its boxes does not
     Slice (pos 1) (Rect (pos 1) (pos 1) (pos 4) (pos 4))
@@ -87,9 +89,10 @@ rule : map (λ question. needs_of repeated question (ofRule 1)) (
     ∷ Position 1 (pos 1) ∷ Nearest 1 (pos 3) (record { x = pos 9; y = pos 9 })
     -- but not at the anchor, nor where there is no such object
     ∷ Position 1 (pos 0) ∷ Nearest 1 (pos 0) (record { x = pos 0; y = pos 0 }) ∷ Position 2 (pos 1)
-    -- and a path may read any rule
-    ∷ Path 1 (pos 0) (pos 0) ∷ []) ≡ false ∷ false ∷ true ∷ true ∷ true ∷ true ∷ false ∷ false ∷ false ∷ true ∷ []
-unfolding start_in period_rule near_rule all_blocks touching_rule holding_rule nodes_in parsed table_of_rules expansion_of bounding_box_of box_round cells_along
-    displacement_of move_of ring_moves ring_of_code side_moves where_set codes_below codes_in levels_with digits_in children_of_prefixes
-    prefixes morton_row morton_column cell_of rank_of ones_of
+    -- a path does whose window comes to its first instant, but not one that ends before
+    ∷ Path 1 (pos 0) (pos 1) ∷ Path 1 (pos 0) (pos 0) ∷ [])
+    ≡ false ∷ false ∷ true ∷ true ∷ true ∷ true ∷ false ∷ false ∷ false ∷ true ∷ false ∷ []
+unfolding start_in period_rule near_rule track_rule all_blocks touching_rule holding_rule opening_rule nodes_in parsed table_of_rules
+    expansion_of bounding_box_of box_round cells_along displacement_of move_of ring_moves ring_of_code side_moves where_set codes_below
+    codes_in levels_with digits_in children_of_prefixes prefixes morton_row morton_column cell_of rank_of ones_of
 rule = refl

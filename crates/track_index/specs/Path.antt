@@ -1,21 +1,23 @@
 -- What is left of the walk of a path: the walk over the block that was begun, and the periods after it.
-use Rattle.std.specs.Prelude.{◌≡◌, ℕ, ◌+◌, ◌-◌, ◌<◌, ◌≤◌, ℤ, ◌≤ℤ◌, Bool, ◌&&◌, ◌||◌, if◌then◌else◌, List, ◌++◌, All, None, Some, filter, length, min, nat_le, nat_lt}
+use Rattle.std.specs.Prelude.{◌≡◌, ℕ, ◌+◌, ◌-◌, ◌<◌, ◌≤◌, ℤ, ◌≤ℤ◌, Bool, ◌&&◌, ◌||◌, if◌then◌else◌, List, ◌++◌, All, Option, None, Some, filter, length, min, nat_le, nat_lt}
 use Rattle.std.specs.Int.Signed.{le_z}
 use Rattle.std.specs.List.{range_with_len, sum_by}
 use Rattle.step_count.specs.Reads.{Read}
 use Rattle.track_types.specs.Frame.{periods_of}
 use Rattle.track_types.specs.StopWalk.{first_past, up_to}
+use Rattle.track_types.specs.declared.cell.Cell.{Cell}
+use Rattle.track_types.specs.declared.cell_box.CellBox.{CellBox}
 use Rattle.track_types.specs.declared.frame.Frame.{Frame}
 use Rattle.track_types.specs.declared.parts.Parts.{Parts}
 use Rattle.track_types.specs.declared.region.Region.{Region}
 use Rattle.track_types.specs.declared.stop.Stop.{Stop}
-use Rattle.rule_store.specs.Needs.{log_needs}
+use Rattle.log_cursor.specs.Needs.{walk_needs}
 use Rattle.log_cursor.specs.Touching.{first_among}
 use Rattle.log_cursor.specs.Walk.{reads_to, WalkView}
 use Rattle.snapshots.specs.IndexCost.{period_cost}
-use Rattle.snapshots.specs.Needs.{is_of_block, needs_in}
 use Rattle.snapshots.specs.Parts.{first_in, rules_in}
 use Rattle.object_track.specs.Between.{cost_between, stops_between}
+use Rattle.object_track.specs.Needs.{track_needs}
 
 -- the window has an instant up to this one, and the period begins by then
 abbrev pub begins_by : Frame → ℤ → ℤ → ℕ → Bool
@@ -29,7 +31,7 @@ cost_until parts index from instant next behind =
 
 -- The stops that are left, how many reads are still to be made for them at most, and what these reads are for. They are for
 -- the walk over the block that was begun, and for the periods from `next` to before `behind`, which are still to be looked
--- into. The object is that at the place `index`, and the window begins at `from`.
+-- into. The object is that at the place `index`, and the window is from `from` to `to`, both counted.
 pub record PathView : Type 0 where
   pub stops : List Stop
   pub reads : ℕ
@@ -37,6 +39,7 @@ pub record PathView : Type 0 where
   pub parts : Parts
   pub index : ℕ
   pub from : ℤ
+  pub to : ℤ
   pub next : ℕ
   pub behind : ℕ
 
@@ -49,6 +52,7 @@ path_walk_of parts index from to next behind block = record {
   parts = parts;
   index = index;
   from = from;
+  to = to;
   next = next;
   behind = behind;
 }
@@ -57,17 +61,19 @@ path_walk_of parts index from to next behind block = record {
 abbrev pub is_left : ℕ → ℕ → ℕ → Bool
 is_left next behind period = nat_le next period && nat_lt period behind
 
--- the reads of the periods from one to before another, and of an object's logs there, by its place among all objects
-abbrev pub left_needs : Parts → ℕ → ℕ → ℕ → Read → Bool
-left_needs parts index next behind = needs_in parts.frame (is_left next behind) (is_of_block parts (Some index))
+-- the reads of the periods from one to before another, and of an object's logs there, by its place among all objects: of
+-- rules only those that a walk over the window opens by a test of their boxes
+abbrev pub left_needs : (Cell → Option CellBox → Bool) → Parts → ℕ → ℤ → ℤ → ℕ → ℕ → Read → Bool
+left_needs may parts index from to next behind = track_needs may parts (is_left next behind) from to (Some index)
 
--- these reads, and those of a log whose symbols stand at these places
-abbrev pub walk_needs : ℕ × ℕ → Parts → ℕ → ℕ → ℕ → Read → Bool
-walk_needs places parts index next behind read = log_needs places read || left_needs parts index next behind read
+-- these reads, and those of the walk over a block that was begun
+abbrev pub rest_needs : (Cell → Option CellBox → Bool) → WalkView → Parts → ℕ → ℤ → ℤ → ℕ → ℕ → Read → Bool
+rest_needs may block parts index from to next behind read =
+    walk_needs may block read || left_needs may parts index from to next behind read
 
--- the reads that are needed for the stops that are left of a walk
-abbrev pub path_needs : PathView → Read → Bool
-path_needs path = walk_needs path.block.places path.parts path.index path.next path.behind
+-- the reads that are needed for the stops that are left of a walk, if it opens the rules whose boxes pass a test
+abbrev pub path_needs : (Cell → Option CellBox → Bool) → PathView → Read → Bool
+path_needs may path = rest_needs may path.block path.parts path.index path.from path.to path.next path.behind
 
 -- the reads of the block that was begun up to an instant: all of them where the next period begins by then
 abbrev pub block_reads_to : Frame → ℕ → WalkView → ℤ → ℕ

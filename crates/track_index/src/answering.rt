@@ -2,8 +2,11 @@ ghost use Rattle.std.specs.Prelude.{◌≡◌, ◌≤◌, ℤ, IfOk};
 ghost use Rattle.step_count.specs.Reads.{ReadsWithin};
 ghost use Rattle.track_types.specs.ByFilter.{path_of};
 ghost use Rattle.track_types.specs.declared.question.Question.TheVariants as asked;
+ghost use Rattle.track_types.specs.declared.region.Region.{Region as RegionView};
+ghost use Rattle.log_cursor.specs.Touching.{touches_at};
+ghost use Rattle.log_cursor.specs.Turn.{has_hull};
 ghost use Rattle.snapshots.specs.IndexCost.{path_cost};
-ghost use Rattle.object_track.specs.Needs.{needs_between};
+ghost use Rattle.slice_search.specs.Needs.{interval_needs};
 
 use crate::index::IndexRef;
 use crate::path_walk::PathWalk;
@@ -64,10 +67,10 @@ impl<'a> Answerer for IndexRef<'a> {
             walk.stops ≡ path_of (chart_in self.entry.index.now).rows object from to) }
         ensures budget { IfOk result (λ walk.
             walk.reads ≤ cost_of self.entry.index.now (asked.Path object from to)) }
-        ensures needs { IfOk result (λ walk.
-            ReadsWithin (path_needs walk) (needs_of self.entry.index.now (asked.Path object from to))) }
-        ensures within { IfOk result (λ walk.
-            ReadsWithin (path_needs walk) (needs_between self.entry.index.now from to)) }
+        ensures needs { IfOk result (λ walk. ReadsWithin (path_needs has_hull walk)
+            (needs_of self.entry.index.now (asked.Path object from to))) }
+        ensures within { IfOk result (λ walk. (region : RegionView) → ReadsWithin
+            (path_needs (touches_at region) walk) (interval_needs self.entry.index.now from to region)) }
         ensures budget_to { IfOk result (λ walk. (instant : ℤ) →
             path_reads_to walk instant ≤ path_cost self.entry.index.now object from instant) }
         ensures in_time { IfOk result (λ walk. (instant : ℤ) → path_reads_past walk instant

@@ -1,8 +1,11 @@
-ghost use Rattle.std.specs.Prelude.{◌≡◌, ◌++◌, ◌+◌, ◌≤◌, ◌<◌, ℤ};
+ghost use Rattle.std.specs.Prelude.{◌≡◌, ◌++◌, ◌+◌, ◌≤◌, ◌<◌, ℤ, Bool, Option};
 ghost use Rattle.step_count.specs.Reads.{ReadsWithin};
 ghost use Rattle.std.specs.Prelude.{[], length, IfNone, IfOk, IfSome, option_to_list};
 ghost use Rattle.track_types.specs.Frame.{periods_of};
-ghost use Rattle.log_cursor.specs.Touching.{IsDrawnIn};
+ghost use Rattle.track_types.specs.declared.cell.Cell.{Cell as CellView};
+ghost use Rattle.track_types.specs.declared.cell_box.CellBox.{CellBox as BoxView};
+ghost use Rattle.log_cursor.specs.Touching.{IsDrawnIn, touches_at};
+ghost use Rattle.log_cursor.specs.Turn.{has_hull};
 ghost use Rattle.log_cursor.specs.Walk.{IsDrawnInTime};
 ghost use Rattle.object_track.specs.Between.{cost_between, stops_between};
 ghost use Rattle.track_index.specs.Path.{cost_until, left_needs, path_needs, path_reads_to};
@@ -62,8 +65,9 @@ impl<'a> PathWalk<'a> {
             ≡ stops_between index.now object from to periods.next periods.end) }
         ensures budget { IfOk result (λ walk. walk.reads
             ≡ cost_between index.now object from to periods.next periods.end) }
-        ensures needs { IfOk result (λ walk.
-            ReadsWithin (path_needs walk) (left_needs index.now object periods.next periods.end)) }
+        ensures needs { IfOk result (λ walk. (may : CellView → Option BoxView → Bool)
+            → ReadsWithin (path_needs may walk)
+            (left_needs may index.now object from to periods.next periods.end)) }
         ensures budget_to { IfOk result (λ walk. (instant : ℤ) → path_reads_to walk instant
             ≡ cost_until index.now object from instant periods.next periods.end) }
     {
@@ -85,10 +89,11 @@ impl<'a> PathWalk<'a> {
     /// passes over a rule that it meets again at the cell where it was opened, as long as it remembers
     /// that. It takes no memory.
     pub fn draw_in<L: Reads>(&mut self, test: &RegionTest, steps: &mut Steps<L>) -> Option<Stop>
-        requires may { ReadsWithin (path_needs self.old) L.may }
+        requires may { ReadsWithin (path_needs (touches_at test.now.region) self.old) L.may }
         ensures drawn { IsDrawnIn test.now.region self.old.stops self.new.stops result }
         ensures cost { steps.new + self.new.reads ≤ steps.old + self.old.reads }
-        ensures needs { ReadsWithin (path_needs self.new) (path_needs self.old) }
+        ensures needs { ReadsWithin (path_needs (touches_at test.now.region) self.new)
+            (path_needs (touches_at test.now.region) self.old) }
     {
         let index = self.index;
         let stores = index.stores();
@@ -111,6 +116,7 @@ impl<'a> PathWalk<'a> {
 }
 
 impl<'a> Lazy for PathWalk<'a> {
+    ghost use Rattle.log_cursor.specs.Turn.{has_hull};
     ghost use Rattle.track_index.specs.Path.{path_needs};
 
     type Item = Stop;
@@ -119,16 +125,16 @@ impl<'a> Lazy for PathWalk<'a> {
 
     ghost budget = { λ w. w.reads };
 
-    ghost needs = { path_needs };
+    ghost needs = { path_needs has_hull };
 
     fn draw<L: Reads>(&mut self, steps: &mut Steps<L>) -> Option<Stop>
-        requires may { ReadsWithin (path_needs self.old) L.may }
+        requires may { ReadsWithin (path_needs has_hull self.old) L.may }
         ensures found { self.old.stops ≡ option_to_list result ++ self.new.stops }
         ensures none { IfNone result (self.old.stops ≡ []) }
         ensures cost { steps.new + self.new.reads ≤ steps.old + self.old.reads }
         ensures in_time { IfSome result
             (IsDrawnInTime (path_reads_to self.old) (path_reads_to self.new) steps.old steps.new) }
-        ensures needs { ReadsWithin (path_needs self.new) (path_needs self.old) }
+        ensures needs { ReadsWithin (path_needs has_hull self.new) (path_needs has_hull self.old) }
     {
         let index = self.index;
         let stores = index.stores();

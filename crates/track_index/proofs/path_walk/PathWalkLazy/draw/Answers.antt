@@ -2,7 +2,7 @@ use Rattle.std.proofs.Common.{◌≡◌, ◌++◌, w64, to_z, of_z, arith, ap, s
 use Rattle.std.proofs.lemmas.Int.{ints}
 use Rattle.track_types.specs.declared.parts.Parts.{Parts}
 use Rattle.rule_store.specs.Log.{log_of}
-use Rattle.log_cursor.specs.Walk.{WalkView}
+use Rattle.log_cursor.specs.Turn.{has_hull}
 use Rattle.snapshots.specs.SoundParts.{IsValid}
 use Rattle.object_track.specs.Between.{stops_between}
 use Rattle.object_track.proofs.BetweenLemmas.{stops_between-none}
@@ -10,7 +10,7 @@ use Rattle.step_count.specs.Reads.{ofPeriod}
 use Rattle.rule_store.specs.Needs.{places_of}
 use Rattle.snapshots.specs.Parts.{snapshot_in}
 use Rattle.snapshots.specs.View.{block_of}
-use Rattle.track_index.proofs.NeedsLemmas.{is_left-next, walk-absent, walk-log, walk-next}
+use Rattle.track_index.proofs.NeedsLemmas.{is_left-next, placed-begun, walk-absent, walk-drawn, walk-log, walk-next}
 use Rattle.track_index.proofs.PathLemmas.{drawing-absent, drawing-walk_from, drawn-in_time, drawn-walk}
 use Rattle.track_index.proofs.path_walk.PathWalkLazy.draw.Goals as goal
 
@@ -58,11 +58,14 @@ loop-stop-preserved-in-Some-find g c =
           (places_of c.new-placed.result.log) (log_of c.new-placed.result.log) c.new-placed.result.start (to_z w64 (of_z w64 walk.from))
           (to_z w64 (of_z w64 walk.to)) c.in-Some-find.ensures.value c.in-Some-find.ensures.block placed.rules placed.log placed.start low high
           c.begin.ensures.walk,
-      λ read needed. c.loop-stop.invariant.1 read (walk-next walk.index.now walk.object walk.periods.next walk.periods.end
-          c.loop-stop.invariant.0.walk.within (omega (arith, c.if-self.false)) c.begin.new.self.places walk.block.places
-          c.in-Some-find.block (c.in-Some-find.ensures.value
+      λ read needed. c.loop-stop.invariant.1 read (walk-next has_hull walk.index.now walk.from walk.to walk.object
+          walk.periods.next walk.periods.end c.loop-stop.invariant.0.walk.within (omega (arith, c.if-self.false)) c.begin.new.self
+          walk.block c.in-Some-find.block (c.in-Some-find.ensures.value
           ∙ ap (λ (p : Parts). block_of (snapshot_in p walk.periods.next) walk.object) (sym c.loop-stop.invariant.0.its))
-          (ap (λ (w : WalkView). w.places) c.begin.ensures.walk ∙ placed.places) read needed),
+          (placed-begun c.stores-stores.result.now walk.index.now c.loop-stop.invariant.0.its walk.from walk.to
+          (to_z w64 (of_z w64 walk.from)) (to_z w64 (of_z w64 walk.to)) low high walk.periods.next c.in-Some-find.block
+          c.begin.new.self c.new-placed.result.log.rules.now (places_of c.new-placed.result.log) (log_of c.new-placed.result.log)
+          c.new-placed.result.start placed.rules placed.places placed.log placed.start c.begin.ensures.walk) read needed),
     )
 
 pub loop-stop-preserved : goal.loop-stop-preserved
@@ -74,17 +77,30 @@ loop-stop-preserved g c =
           c.args.steps.now c.loop-stop.steps c.draw.new.steps c.find.new.steps c.loop-stop.invariant.0
           c.in_default.ensures.none c.in_default.ensures.rules c.in_default.ensures.cost
           c.find.ensures.cost c.in_default.ensures.found c.in_default-find.ensures.value,
-      λ read needed. c.loop-stop.invariant.1 read (walk-absent walk.index.now walk.object walk.periods.next walk.periods.end
-          c.loop-stop.invariant.0.walk.within (omega (arith, c.if-self.false)) c.draw.new.self.places walk.block.places
-          c.in_default.ensures.places read needed),
+      λ read needed. c.loop-stop.invariant.1 read (walk-absent has_hull walk.index.now walk.from walk.to walk.object
+          walk.periods.next walk.periods.end c.loop-stop.invariant.0.walk.within (omega (arith, c.if-self.false)) c.draw.new.self
+          walk.block c.in_default.ensures.needs read needed),
     )
+
+-- what was not drawn is read by name as before
+pub returns-in-Some-clause-needs : goal.returns-in-Some-clause-needs
+returns-in-Some-clause-needs g c = λ read needed.
+    let walk = c.loop-stop.self-inside in
+    c.loop-stop.invariant.1 read (walk-drawn has_hull walk.index.now walk.from walk.to walk.object walk.periods.next
+    walk.periods.end c.draw.new.self walk.block c.in-Some.ensures.needs read needed)
+
+pub returns-then-self-clause-needs : goal.returns-then-self-clause-needs
+returns-then-self-clause-needs g c = λ read needed.
+    let walk = c.loop-stop.self-inside in
+    c.loop-stop.invariant.1 read (walk-drawn has_hull walk.index.now walk.from walk.to walk.object walk.periods.next
+    walk.periods.end c.draw.new.self walk.block c.in_default.ensures.needs read needed)
 
 pub draw-requires : goal.draw-requires
 draw-requires g c =
     let walk = c.loop-stop.self-inside in
     record {
-      may = λ read needed. c.requires.may read (c.loop-stop.invariant.1 read (walk-log walk.index.now walk.object walk.periods.next
-          walk.periods.end walk.block.places read needed));
+      may = λ read needed. c.requires.may read (c.loop-stop.invariant.1 read (walk-log has_hull walk.index.now walk.from
+          walk.to walk.object walk.periods.next walk.periods.end walk.block read needed));
     }
 
 pub find-requires-clause-may : goal.find-requires-clause-may
