@@ -4,7 +4,6 @@ pub mod View
 pub mod Facts
 pub mod Hits
 pub mod Cost
-pub mod Needs
 pub mod Counted
 pub mod SmallRows
 pub mod ByInstant

@@ -6,7 +6,7 @@ ghost use Rattle.track_types.specs.declared.question.Question.TheVariants as ask
 ghost use Rattle.snapshots.specs.Parts.{chart_in};
 ghost use Rattle.live_tail.specs.Cost.{cost_with};
 ghost use Rattle.live_tail.specs.Join.{joint_chart, rows_of_tail};
-ghost use Rattle.live_tail.specs.Needs.{needs_beside};
+ghost use Rattle.track_index.specs.Cost.{needs_of};
 
 use crate::interval::interval;
 use crate::nearest::nearest;
@@ -24,8 +24,7 @@ impl<'a> Answerer for TailRef<'a> {
     ghost use Rattle.live_tail.specs.Cost.{cost_with};
     ghost use Rattle.live_tail.specs.Facts.{facts_with};
     ghost use Rattle.live_tail.specs.Join.{joint_chart};
-    ghost use Rattle.track_index.specs.Cost.{path_cost_until};
-    ghost use Rattle.live_tail.specs.Needs.{needs_beside};
+    ghost use Rattle.track_index.specs.Cost.{needs_of, path_cost_until};
 
     type Walk = TailWalk<'a, PathWalk<'a>>;
 
@@ -35,7 +34,7 @@ impl<'a> Answerer for TailRef<'a> {
 
     ghost cost = { λ a. cost_with a.tailed.now.parts a.tailed.now.tail };
 
-    ghost needs = { λ a. needs_beside a.tailed.now.parts };
+    ghost needs = { λ a. needs_of a.tailed.now.parts };
 
     ghost path_cost_until = { λ a. path_cost_until a.tailed.now.parts };
 
@@ -55,7 +54,7 @@ impl<'a> Answerer for TailRef<'a> {
 
     fn position<L: Reads>(self, object: u32, instant: i64, steps: &mut Steps<L>) -> Option<Cell>
         requires instant { IsAsked instant }
-        requires may { ReadsWithin (needs_beside self.tailed.now.parts (asked.Position object instant)) L.may }
+        requires may { ReadsWithin (needs_of self.tailed.now.parts (asked.Position object instant)) L.may }
         ensures value { result ≡ cell_at
             (joint_chart (chart_in self.entry.tailed.now.parts) self.entry.tailed.now.tail).rows object instant }
         ensures cost { steps.new ≤ steps.old

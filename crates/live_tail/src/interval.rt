@@ -9,11 +9,10 @@ ghost use Rattle.track_types.specs.Region.{IsRegionAsked, IsRegionWithin};
 ghost use Rattle.track_types.specs.Table.{IsTable};
 ghost use Rattle.track_types.specs.declared.question.Question.TheVariants as asked;
 ghost use Rattle.track_types.specs.declared.row.Row.{Row as RowView};
-ghost use Rattle.log_cursor.specs.Touching.{first_among};
-ghost use Rattle.object_track.specs.Needs.{needs_between};
+ghost use Rattle.log_cursor.specs.Touching.{first_among, touches_at};
 ghost use Rattle.snapshots.specs.Parts.{chart_in};
 ghost use Rattle.interval_search.specs.FirstHits.{hit_in};
-ghost use Rattle.track_index.specs.Cost.{cost_of};
+ghost use Rattle.track_index.specs.Cost.{cost_of, needs_of};
 ghost use Rattle.track_index.specs.Path.{path_needs};
 ghost use Rattle.live_tail.specs.Cost.{interval_cost_beside, standing_cost};
 ghost use Rattle.live_tail.specs.Hits.{standing};
@@ -47,7 +46,7 @@ pub fn interval<L: Reads>(
     requires from { IsAsked from }
     requires to { IsAsked to }
     requires region { IsRegionAsked region.now }
-    requires may { ReadsWithin (needs_between index.index.now from to) L.may }
+    requires may { ReadsWithin (needs_of index.index.now (asked.Interval from to region.now)) L.may }
     ensures ok { IfOk result (λ found. found.items ≡ hits_of
         (rows_of_both (chart_in index.entry.index.now).rows (rows_of_tail tail.now))
         from to region.now) }
@@ -90,7 +89,8 @@ fn push_standing<L: Reads>(
     requires from { IsAsked window.0 }
     requires to { IsAsked window.1 }
     requires region { IsRegionAsked region.now }
-    requires may { ReadsWithin (needs_between index.index.now window.0 window.1) L.may }
+    requires may { ReadsWithin
+        (needs_of index.index.now (asked.Interval window.0 window.1 region.now)) L.may }
     ensures found { OnOk result (found.new.items ≡ found.old.items ++ filter_map (standing
         (chart_in index.entry.index.now).rows (rows_of_tail tail.now) window.0 window.1 region.now)
         hits.now) }
@@ -158,8 +158,8 @@ impl<'a> TailInterval<'a> {
         requires table { IsTable (chart_in self.now.index.index.now) }
         requires from { IsAsked self.now.from }
         requires to { IsAsked self.now.to }
-        requires may { ReadsWithin (needs_between self.now.index.index.now self.now.from self.now.to)
-            L.may }
+        requires may { ReadsWithin (needs_of self.now.index.index.now
+            (asked.Interval self.now.from self.now.to self.now.test.now.region)) L.may }
         ensures found { OnOk result (found.new.items ≡ found.old.items ++ filter_map (standing
             (chart_in self.now.index.index.now).rows (rows_of_tail self.now.tail.now)
             self.now.from self.now.to self.now.test.now.region) hits.now) }
@@ -184,8 +184,8 @@ impl<'a> TailInterval<'a> {
         requires table { IsTable (chart_in self.now.index.index.now) }
         requires from { IsAsked self.now.from }
         requires to { IsAsked self.now.to }
-        requires may { ReadsWithin (needs_between self.now.index.index.now self.now.from self.now.to)
-            L.may }
+        requires may { ReadsWithin (needs_of self.now.index.index.now
+            (asked.Interval self.now.from self.now.to self.now.test.now.region)) L.may }
         ensures ok { IfOk result (λ stands. stands ≡ standing
             (chart_in self.now.index.index.now).rows (rows_of_tail self.now.tail.now)
             self.now.from self.now.to self.now.test.now.region hit) }
@@ -208,8 +208,8 @@ impl<'a> TailInterval<'a> {
         requires table { IsTable (chart_in self.now.index.index.now) }
         requires from { IsAsked self.now.from }
         requires to { IsAsked self.now.to }
-        requires may { ReadsWithin (needs_between self.now.index.index.now self.now.from self.now.to)
-            L.may }
+        requires may { ReadsWithin (needs_of self.now.index.index.now
+            (asked.Interval self.now.from self.now.to self.now.test.now.region)) L.may }
         ensures ok { IfOk result (λ hit. hit ≡ hit_in
             (rows_of_both (chart_in self.now.index.index.now).rows (rows_of_tail self.now.tail.now))
             self.now.from self.now.to self.now.test.now.region object) }
@@ -251,7 +251,7 @@ fn first_of_both<L: Reads>(
 ) -> Option<Stop>
     requires near { All (λ (row : RowView). IsCellWithin row.cell) (rows_in own) }
     requires ascending { IsStrictlySortedBy stop_order walk.old.stops }
-    requires may { ReadsWithin (path_needs walk.old) L.may }
+    requires may { ReadsWithin (path_needs (touches_at test.now.region) walk.old) L.may }
     ensures value { result ≡ first_among test.now.region (stops_with (rows_in own.entry) walk.old.stops) }
     ensures cost { steps.new ≤ steps.old + walk.old.reads }
 {

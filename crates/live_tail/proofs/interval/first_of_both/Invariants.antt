@@ -1,7 +1,7 @@
 use Rattle.std.proofs.Common.{◌≡◌, ◌+◌, ◌≤◌, ◌++◌, All, [], true, length}
 use Rattle.std.specs.List.Sorted.{IsStrictlySortedBy}
 use Rattle.std.specs.Option.{IfNone, IfSome, option_to_list}
-use Rattle.log_cursor.specs.Touching.{first_among}
+use Rattle.log_cursor.specs.Touching.{first_among, touches_at}
 use Rattle.track_types.specs.Near.{IsCellWithin}
 use Rattle.track_types.specs.Region.{in_region}
 use Rattle.track_types.specs.declared.row.Row.{Row}
@@ -21,7 +21,7 @@ invariant-loop-row g l = record {
   end : IfNone l.hit (l.walk.stops ≡ []);
   up : IsStrictlySortedBy stop_order (option_to_list l.hit ++ l.walk.stops);
   near : All (λ (row : Row). IsCellWithin row.cell) (rows_in l.rest);
-  may : ReadsWithin (path_needs l.walk) g.L.Reads.may;
+  may : ReadsWithin (path_needs (touches_at l.test.region) l.walk) g.L.Reads.may;
   reads : l.steps + l.walk.reads ≤ l.fn.steps + l.fn.walk.reads;
 }
 

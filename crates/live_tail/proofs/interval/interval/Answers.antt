@@ -13,7 +13,6 @@ use Rattle.track_types.specs.declared.row.Row.{Row}
 use Rattle.track_types.proofs.AskedLemmas.{IsRegionWithin-asked}
 use Rattle.snapshots.specs.Parts.{chart_in}
 use Rattle.track_index.specs.Cost.{cost_of}
-use Rattle.track_index.proofs.NeedsLemmas.{interval-within}
 use Rattle.live_tail.specs.Cost.{interval_cost_beside, standing_cost}
 use Rattle.live_tail.specs.Hits.{HaveFirst, standing}
 use Rattle.live_tail.specs.Join.{rows_of_tail, rows_of_both}
@@ -107,11 +106,3 @@ returns-clause-ok g c =
     ∙ same_first both up_both from to region (dedup is_same_object sorted) (hits_of both from to region)
     (dedup-rises sorted order) (hits_of-rise both up_both from to region)
     (HaveFirst-dedup sorted order both from to region enough) (HaveFirst-hits_of both up_both from to region)
-
--- the index alone needs no more
-pub interval-requires-clause-may : goal.interval-requires-clause-may
-interval-requires-clause-may g c =
-    let low : to_z w64 (of_z w64 c.args.from) ≡ c.args.from = omega (arith, ints) in
-    let high : to_z w64 (of_z w64 c.args.to) ≡ c.args.to = omega (arith, ints) in
-    rw (low, high) (λ read needed. c.requires.may read
-    (interval-within c.args.index.index.now c.args.from c.args.to c.args.region.now read needed))

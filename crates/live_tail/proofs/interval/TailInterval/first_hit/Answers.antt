@@ -12,11 +12,11 @@ use Rattle.live_tail.specs.Join.{rows_of_tail, rows_of_both}
 use Rattle.live_tail.specs.SmallRows.{rows_in}
 use Rattle.std.specs.List.Sorted.{IsStrictlySortedBy}
 use Rattle.std.proofs.lemmas.List.Elements.{All-filter, All-same}
-use Rattle.track_types.specs.declared.question.Question.TheVariants.{Path}
+use Rattle.track_types.specs.declared.question.Question.TheVariants.{Interval, Path}
 use Rattle.track_types.specs.declared.parts.Parts.{Parts}
-use Rattle.object_track.specs.Needs.{needs_between}
+use Rattle.track_types.specs.declared.region.Region.{Region}
 use Rattle.snapshots.specs.Parts.{chart_in}
-use Rattle.track_index.specs.Cost.{cost_of}
+use Rattle.track_index.specs.Cost.{cost_of, needs_of}
 use Rattle.live_tail.specs.Walk.{stop_order, stops_with}
 use Rattle.live_tail.proofs.BothLemmas.{path-rises}
 use Rattle.live_tail.proofs.JoinLemmas.{path_of-rows_of_both}
@@ -59,17 +59,18 @@ first_of_both-requires-clause-ascending g c =
     (path-rises (chart_in self.index.index.now).rows c.requires.table.ascending c.args.object (to_z w64 (of_z w64 self.from))
     (to_z w64 (of_z w64 self.to)))
 
--- the walk needs what the window does
+-- the walk needs what an interval does
 pub first_of_both-requires-clause-may : goal.first_of_both-requires-clause-may
 first_of_both-requires-clause-may g c =
     let self = c.args.self.now in
     let parts : Parts = self.index.index.now in
+    let region : Region = self.test.now.region in
+    let end : ℤ = to_z w64 (of_z w64 self.to) in
     let low : to_z w64 (of_z w64 self.from) ≡ self.from = omega (arith, ints) in
-    let high : to_z w64 (of_z w64 self.to) ≡ self.to = omega (arith, ints) in
+    let high : end ≡ self.to = omega (arith, ints) in
     λ read needed. c.requires.may read
-    (subst (λ z. IsTrue (needs_between parts self.from z read)) high
-    (subst (λ z. IsTrue (needs_between parts z (to_z w64 (of_z w64 self.to)) read)) low
-    (c.in_ok-walk.ensures.within read needed)))
+    (subst (λ z. IsTrue (needs_of parts (Interval self.from z region) read)) high
+    (subst (λ z. IsTrue (needs_of parts (Interval z end region) read)) low (c.in_ok-walk.ensures.within region read needed)))
 
 pub returns-in_default-clause-ok : goal.returns-in_default-clause-ok
 returns-in_default-clause-ok g c =
