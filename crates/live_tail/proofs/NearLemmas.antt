@@ -33,7 +33,7 @@ use Rattle.track_types.specs.declared.row.Row.{Row}
 use Rattle.track_types.proofs.NearLemmas.{near_order_total}
 use Rattle.live_tail.specs.Cost.{nearest_cost_beside, raised_count}
 use Rattle.live_tail.specs.Join.{rows_of_both}
-use Rattle.live_tail.proofs.InstantLemmas.{found-moved, found-rises, has_object, left_of}
+use Rattle.live_tail.proofs.InstantLemmas.{found-moved, found-rises, has_object}
 use Rattle.live_tail.proofs.JoinLemmas.{IsAscending-rows_of_both}
 
 module _ {X : Type 0} (order : X → X → Ordering) (o : IsTotalOrder order) where
