@@ -2,7 +2,7 @@
 use Rattle.std.proofs.Common.{◌≡◌, Bool, true, false, pos, List, [], ◌∷◌, map, refl}
 use Rattle.packed_bits.specs.Bits.{ones_of}
 use Rattle.bit_rank.specs.Bits.{rank_of}
-use Rattle.step_count.specs.Reads.{Read, ofPeriod, ofRule, ofSymbol}
+use Rattle.step_count.specs.Reads.{ofPeriod, ofRule, ofSymbol}
 use Rattle.track_types.specs.declared.parts.Parts.{Parts}
 use Rattle.track_types.specs.declared.period_parts.PeriodParts.{PeriodParts}
 use Rattle.track_types.specs.declared.question.Question.{Question}

@@ -69,8 +69,9 @@ impl<'a> Answerer for IndexRef<'a> {
             walk.reads ≤ cost_of self.entry.index.now (asked.Path object from to)) }
         ensures needs { IfOk result (λ walk. ReadsWithin (path_needs has_hull walk)
             (needs_of self.entry.index.now (asked.Path object from to))) }
-        ensures within { IfOk result (λ walk. (region : RegionView) → ReadsWithin
-            (path_needs (touches_at region) walk) (interval_needs self.entry.index.now from to region)) }
+        ensures within { IfOk result (λ walk. (region : RegionView) →
+            ReadsWithin (path_needs (touches_at region) walk)
+            (interval_needs self.entry.index.now from to region)) }
         ensures budget_to { IfOk result (λ walk. (instant : ℤ) →
             path_reads_to walk instant ≤ path_cost self.entry.index.now object from instant) }
         ensures in_time { IfOk result (λ walk. (instant : ℤ) → path_reads_past walk instant
